@@ -1,0 +1,5 @@
+pub mod Causes
+pub mod Streams
+pub mod Moments
+pub mod Images
+pub mod Histories
