@@ -1,5 +1,5 @@
 -- Payloads of fixed length: fields one after another.
-use Rattle.std.specs.Prelude.{◌≡◌, ℕ, ◌+◌, ◌<◌, ◌^◌, ℤ, Bool, not, ◌==◌, List, [], ◌∷◌, ◌++◌, length, replicate, FitsSigned}
+use Rattle.std.specs.Prelude.{◌≡◌, ℕ, ◌<◌, ◌^◌, ℤ, Bool, not, ◌==◌, List, [], ◌∷◌, ◌++◌, length, replicate, FitsSigned}
 use Rattle.std.specs.Int.{w32, w64, from_bool}
 use Rattle.pickle_cells.specs.Cell.{int, int64, uint64}
 

@@ -1,2 +1,4 @@
 pub mod Cell
+pub mod CellReading
 pub mod Layout
+pub mod PickleLayout

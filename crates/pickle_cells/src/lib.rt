@@ -3,8 +3,10 @@
 #![tactic(auto)]
 
 mod blob;
+mod fault;
 
 pub use blob::Blob;
+pub use fault::PickleFault;
 
 #[cfg(test)]
 mod tests;
