@@ -1,6 +1,6 @@
 -- A command in a file: its size in two bytes, little-endian, its id in one byte, its payload. The size counts
 -- the id and the payload (Chromium's components/sessions/core/command_storage_backend.cc).
-use Rattle.std.specs.Prelude.{◌≡◌, ℕ, ◌+◌, ◌<◌, ◌≤◌, Bool, List, [], ◌∷◌, ◌++◌, length, take, nat_le, ◌&&◌}
+use Rattle.std.specs.Prelude.{ℕ, ◌+◌, ◌<◌, ◌≤◌, Bool, List, [], ◌∷◌, ◌++◌, length, take, nat_le, ◌&&◌}
 use Rattle.std.specs.Int.{w16, to_le_bytes, from_le_bytes}
 
 pub record Frame : Type 0 where

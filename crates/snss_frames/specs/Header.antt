@@ -1,6 +1,6 @@
 -- The eight bytes at the head of a file: the signature and the version, each in four bytes, little-endian
 -- (Chromium's components/sessions/core/command_storage_backend.cc).
-use Rattle.std.specs.Prelude.{ℕ, Bool, true, false, List, ◌++◌, take, drop, Result, Ok, Err, if◌then◌else◌, ◌==◌, ◌||◌}
+use Rattle.std.specs.Prelude.{ℕ, List, ◌++◌, take, drop, Result, Ok, Err, if◌then◌else◌, ◌==◌, ◌||◌}
 use Rattle.std.specs.Int.{w32, to_le_bytes, from_le_bytes}
 use Rattle.snss_frames.specs.declared.header.Version.{Version}
 use Rattle.snss_frames.specs.declared.header.Version.TheVariants.{One, Three}

@@ -1,6 +1,6 @@
 -- What the bytes behind a header say: whole frames, one after another, then a rest that begins none. The rest
 -- is how the file ends.
-use Rattle.std.specs.Prelude.{◌≡◌, ℕ, ◌+◌, ◌-◌, Bool, false, List, [], ◌∷◌, ◌++◌, length, if◌then◌else◌, ◌==◌, nat_lt}
+use Rattle.std.specs.Prelude.{◌≡◌, ℕ, ◌+◌, ◌-◌, false, List, ◌++◌, length, if◌then◌else◌, ◌==◌}
 use Rattle.std.specs.List.{AllByRecursion, flat_map}
 use Rattle.snss_frames.specs.Frame.{Frame, IsFrame, frame_bytes, begins_frame, size_of}
 use Rattle.snss_frames.specs.declared.ending.Ending.{Ending}
