@@ -5,9 +5,11 @@
 mod clock;
 mod disk;
 mod failure;
+mod memory_stream;
 mod stream;
 
-pub use clock::Clock;
+pub use clock::{Clock, FixedClock, StdClock};
 pub use disk::SessionDisk;
 pub use failure::{DiskError, Failed};
+pub use memory_stream::{MemorySink, MemorySource};
 pub use stream::{Sink, Source};
