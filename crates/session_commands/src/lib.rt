@@ -1,13 +1,15 @@
-// A library with one function.
+//! The commands of session files, read and written exactly. A payload that no row of the table accepts is kept
+//! as it is. Stands on pickle_cells.
 #![tactic(auto)]
 
-ghost use Rattle.std.specs.Prelude.{◌≡◌};
-ghost use Rattle.session_commands.specs.Echo.{echo_of};
+mod command;
+mod fault;
+mod fixed;
+mod raw;
 
-// The `ensures` clause is the contract: what `echo` returns is `echo_of` of its argument, a definition
-// in `specs/Echo.antt`, which a caller's clause can cite too.
-pub fn echo(x: usize) -> usize
-    ensures { result ≡ echo_of x }
-{
-    x
-}
+pub use command::SessionCommand;
+pub use fault::PayloadFault;
+pub use raw::RawCommand;
+
+#[cfg(test)]
+mod tests;
