@@ -1,1 +1,3 @@
 pub mod Leaves
+mod DiskFiles
+mod ChangeLog

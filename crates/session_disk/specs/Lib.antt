@@ -4,3 +4,6 @@ pub mod MemoryStreams
 pub mod Moments
 pub mod Images
 pub mod Histories
+pub mod DiskFiles
+pub mod ChangeLog
+pub mod Recordings

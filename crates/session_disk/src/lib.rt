@@ -2,14 +2,18 @@
 //! session files of one family; with implementations in memory and over real files. Stands on pickle_cells.
 #![tactic(auto)]
 
+mod change_log;
 mod clock;
 mod disk;
+mod disk_file;
 mod failure;
 mod memory_stream;
+mod recording;
 mod stream;
 
 pub use clock::{Clock, FixedClock, StdClock};
 pub use disk::SessionDisk;
+pub use disk_file::{DiskFile, FileBytes};
 pub use failure::{DiskError, Failed};
 pub use memory_stream::{MemorySink, MemorySource};
 pub use stream::{Sink, Source};

@@ -1,0 +1,13 @@
+-- What a recording stands for.
+use Rattle.std.specs.Prelude.{[], None}
+use Rattle.session_disk.specs.declared.recording.Recording.{Recording}
+use Rattle.session_disk.specs.ChangeLog.{moment_of, history_from}
+use Rattle.session_disk.specs.Histories.{History}
+use Rattle.session_disk.specs.Moments.{Moment}
+
+abbrev pub history_of : Recording → History
+history_of recording = history_from recording.log.items (moment_of recording.files.items recording.removed.items recording.told recording.creates)
+
+-- nothing is there, nothing was told, nothing made
+abbrev pub empty_moment : Moment
+empty_moment = record { standing = λ stamp. None; removed = []; told = 0; creates = 0 }

@@ -1,0 +1,205 @@
+//! The files of a disk in memory, in a list by rising stamp, and the changes that its calls make to that list.
+//! A look-up scans the list from its front: a disk holds few files.
+ghost use Rattle.std.specs.Prelude.{◌≡◌, ℕ, true, ◌+◌, ◌<◌, ◌≤◌, ◌^◌, [], ◌∷◌, ◌++◌, map, filter, not, length, max, Some, None, option_map, IfOk, OnOk, OnErr, IfSome, IsSome, IsNone, slice_index_or, vec_len, vec_capacity};
+ghost use Rattle.session_disk.specs.declared.disk_file.DiskFile.{DiskFile};
+ghost use Rattle.session_disk.specs.Moments.{Standing, with_file, settled_file};
+ghost use Rattle.session_disk.specs.DiskFiles.{standing_of, standing_in, is_listed, place_of, unsettled_stamps};
+
+use std::alloc::{AllocError, Global};
+use std::marker::Model;
+
+/// The length that no file passes, 2^62.
+const LONGEST: u64 = 1 << 62;
+
+/// A file's bytes in one vector that doubles as it grows.
+#[derive(Drop)]
+pub struct FileBytes {
+    bytes: Vec<u8>,
+}
+
+impl Model for FileBytes {
+    ghost use Rattle.std.specs.Prelude.{ℕ, List};
+    ghost use Rattle.std.specs.Coded.{coded_ℕ, coded_list};
+
+    ghost Value = { List ℕ };
+
+    ghost view = { λ b. b.bytes.items };
+}
+
+impl FileBytes {
+    pub(crate) fn new(alloc: Global) -> FileBytes
+        ensures { result ≡ [] }
+    {
+        FileBytes {
+            bytes: Vec::new(alloc),
+        }
+    }
+
+    pub(crate) fn from_slice(alloc: Global, bytes: &[u8]) -> Result<FileBytes, AllocError>
+        ensures { IfOk result (λ b. b ≡ bytes.now) }
+    {
+        let bytes = Vec::from_slice(alloc, bytes)?;
+        Ok(FileBytes { bytes })
+    }
+
+    pub fn as_slice(&self) -> &[u8]
+        ensures { result.now ≡ self.now }
+    {
+        self.bytes.as_slice()
+    }
+
+    pub(crate) fn append(&mut self, more: &[u8]) -> Result<(), AllocError>
+        ensures ok { OnOk result (self.new ≡ self.old ++ more.now) }
+        ensures err { OnErr result (self.new ≡ self.old) }
+    {
+        self.bytes.extend_from_slice(more)
+    }
+}
+
+/// A file that stands, or stood before it was removed.
+#[derive(Drop)]
+pub struct DiskFile {
+    pub stamp: u64,
+    pub bytes: FileBytes,
+    /// How many of its first bytes a crash keeps.
+    pub synced: u64,
+    /// Whether a crash keeps its name.
+    pub settled: bool,
+}
+
+/// How many files at the front have stamps below a bound.
+pub(crate) fn place_of(files: &[DiskFile], stamp: u64) -> usize
+    ensures { result ≡ place_of stamp files.now }
+{
+    for (i, file) in files.iter().enumerate() {
+        if file.stamp >= stamp {
+            return i;
+        }
+    }
+    files.len()
+}
+
+pub(crate) fn insert(files: &mut Vec<DiskFile>, file: DiskFile) -> Result<(), AllocError>
+    requires listed { is_listed files.old.items ≡ true }
+    requires stamp { file.stamp < 2 ^ 63 }
+    requires bytes { length file.bytes ≤ 2 ^ 62 }
+    requires absent { IsNone (standing_in files.old.items file.stamp) }
+    ensures listed { is_listed files.new.items ≡ true }
+    ensures ok { OnOk result
+        (standing_in files.new.items ≡ with_file file.stamp (Some (standing_of file)) (standing_in files.old.items)) }
+    ensures err { OnErr result (files.new.items ≡ files.old.items) }
+{
+    let place = place_of(files, file.stamp);
+    files.insert(place, file)?;
+    Ok(())
+}
+
+/// The place of a file that stands.
+fn find_place(files: &[DiskFile], stamp: u64) -> usize
+    requires listed { is_listed files.now ≡ true }
+    requires stands { IsSome (standing_in files.now stamp) }
+    ensures bound { result < length files.now }
+    ensures found { (d : DiskFile) → (slice_index_or files.now result d).stamp ≡ stamp }
+{
+    place_of(files, stamp)
+}
+
+/// The file under a stamp.
+pub(crate) fn find(files: &[DiskFile], stamp: u64) -> &DiskFile
+    requires listed { is_listed files.now ≡ true }
+    requires stands { IsSome (standing_in files.now stamp) }
+    ensures found { standing_in files.now stamp ≡ Some (standing_of result.now) }
+    ensures bound { length result.now.bytes ≤ 2 ^ 62 }
+{
+    let place = find_place(files, stamp);
+    &files[place]
+}
+
+/// Adds bytes at the end of a file. A length past the longest is refused as want of memory.
+pub(crate) fn append(files: &mut Vec<DiskFile>, stamp: u64, more: &[u8]) -> Result<(), AllocError>
+    requires listed { is_listed files.old.items ≡ true }
+    requires stands { IsSome (standing_in files.old.items stamp) }
+    ensures listed { is_listed files.new.items ≡ true }
+    ensures ok { OnOk result
+        (standing_in files.new.items ≡ with_file stamp (option_map (λ (file : Standing). record file { bytes = file.bytes ++ more.now }) (standing_in files.old.items stamp)) (standing_in files.old.items)) }
+    ensures err { OnErr result (files.new.items ≡ files.old.items) }
+{
+    let place = find_place(files, stamp);
+    let file = &mut files[place];
+    append_at(file, more)
+}
+
+fn append_at(file: &mut DiskFile, more: &[u8]) -> Result<(), AllocError>
+    ensures ok { OnOk result (file.new ≡ record file.old { bytes = file.old.bytes ++ more.now }) }
+    ensures fits { length file.old.bytes ≤ 2 ^ 62 → length file.new.bytes ≤ 2 ^ 62 }
+    ensures stamp { file.new.stamp ≡ file.old.stamp }
+    ensures err { OnErr result (file.new ≡ file.old) }
+{
+    let free = LONGEST.saturating_sub(file.bytes.as_slice().len() as u64);
+    if more.len() as u64 > free {
+        return Err(AllocError);
+    }
+    file.bytes.append(more)
+}
+
+/// Makes the first bytes of a file safe, up to a length, and answers how many were before.
+pub(crate) fn sync(files: &mut Vec<DiskFile>, stamp: u64, reached: u64) -> u64
+    requires listed { is_listed files.old.items ≡ true }
+    requires stands { IsSome (standing_in files.old.items stamp) }
+    ensures listed { is_listed files.new.items ≡ true }
+    ensures files { standing_in files.new.items ≡ with_file stamp (option_map (λ (file : Standing). record file { synced = max file.synced reached }) (standing_in files.old.items stamp)) (standing_in files.old.items) }
+    ensures before { IfSome (standing_in files.old.items stamp) (λ file. result ≡ file.synced) }
+{
+    let place = find_place(files, stamp);
+    let file = &mut files[place];
+    let before = file.synced;
+    file.synced = before.max(reached);
+    before
+}
+
+/// Takes a file out of the list.
+pub(crate) fn take(files: &mut Vec<DiskFile>, stamp: u64) -> DiskFile
+    requires listed { is_listed files.old.items ≡ true }
+    requires stands { IsSome (standing_in files.old.items stamp) }
+    ensures listed { is_listed files.new.items ≡ true }
+    ensures files { standing_in files.new.items ≡ with_file stamp None (standing_in files.old.items) }
+    ensures stamp { result.stamp ≡ stamp }
+    ensures taken { standing_in files.old.items stamp ≡ Some (standing_of result) }
+{
+    let place = find_place(files, stamp);
+    files.remove(place)
+}
+
+pub(crate) fn settle_all(files: &mut Vec<DiskFile>)
+    requires listed { is_listed files.old.items ≡ true }
+    ensures listed { is_listed files.new.items ≡ true }
+    ensures files { (stamp : ℕ) → standing_in files.new.items stamp ≡ option_map settled_file (standing_in files.old.items stamp) }
+{
+    for file in files.iter_mut() {
+        file.settled = true;
+    }
+}
+
+/// The stamps of the files whose names aren't settled.
+pub(crate) fn unsettled_stamps(alloc: Global, files: &[DiskFile]) -> Result<Vec<u64>, AllocError>
+    ensures { IfOk result (λ stamps. stamps.items ≡ unsettled_stamps files.now) }
+{
+    let mut stamps = Vec::new(alloc);
+    for file in files {
+        if !file.settled {
+            stamps.push(file.stamp)?;
+        }
+    }
+    Ok(stamps)
+}
+
+/// Adds a file at the end of a list that has room.
+pub(crate) fn push(files: &mut Vec<DiskFile>, file: DiskFile)
+    requires { vec_len files.old < vec_capacity files.old }
+    ensures { files.new.items ≡ files.old.items ++ file ∷ [] }
+{
+    match files.push(file) {
+        Ok(()) => {}
+        Err(_) => unreachable!(),
+    }
+}
