@@ -1,11 +1,11 @@
 -- What a list of files by rising stamp keeps when one is added, changed or taken out.
-use Rattle.std.proofs.Common.{◌≡◌, ◌≢◌, ℕ, zero, suc, ◌<◌, ◌≤◌, ◌^◌, nat_lt, nat_eq, true, false, not, cond, ◌&&◌, List, [], ◌∷◌, ◌++◌, map, length, get_or, set, take, drop, Option, Some, None, IsSome, IsNone, option_map, refl, sym, ap, ◌∙◌, arith}
+use Rattle.std.proofs.Common.{◌≡◌, ◌≢◌, ℕ, zero, suc, ◌<◌, ◌≤◌, ◌^◌, nat_lt, nat_eq, true, false, not, cond, ◌&&◌, List, [], ◌∷◌, ◌++◌, map, length, get_or, set, take, drop, Option, Some, None, IsSome, IsNone, IfSome, option_map, refl, sym, ap, ◌∙◌, arith}
 use Rattle.std.proofs.lemmas.Bool.Decides.{nat_tests}
 use Rattle.std.proofs.lemmas.List.{take_all, drop_all, append-nil, length-append}
 use Rattle.std.specs.List.{list_any}
 use Rattle.session_disk.specs.declared.disk_file.DiskFile.{DiskFile}
-use Rattle.session_disk.specs.Moments.{Standing, with_file, settled_file}
-use Rattle.session_disk.specs.DiskFiles.{standing_of, standing_in, settle_file, all_above, is_listed, place_of, unsettled_stamps}
+use Rattle.session_disk.specs.Moments.{Standing, with_file, settled_file, IsBelow, IsNewest, IsNewestBelow}
+use Rattle.session_disk.specs.DiskFiles.{standing_of, standing_in, settle_file, all_above, is_listed, place_of, end_of, unsettled_stamps}
 
 -- a bound below all stamps, for what stands, for a lower bound and at an index
 stands_above : (bound : ℕ) (files : List DiskFile) (stamp : ℕ) → all_above bound files ≡ true → IsSome (standing_in files stamp) → bound < stamp
@@ -188,3 +188,50 @@ module _ (files : List DiskFile) (i : ℕ) (stamp : ℕ) (x : DiskFile) (listed 
 
   pub without_stands : standing_in (take i files ++ drop (suc i) files) ≡ with_file stamp None (standing_in files)
   without_stands = rw (sym (found x)) (λ j s. standing_in-without files i x s listed within j)
+
+-- nothing stands below a bound in whose place no file comes before
+pub none_below : (files : List DiskFile) (below : Option ℕ) → is_listed files ≡ true → end_of below files ≡ 0 → IsNewestBelow (standing_in files) below None
+none_below [] below l e = λ s stands within. grind arith
+none_below (first ∷ files) None l e = absurd (omega (arith, e))
+none_below (first ∷ files) (Some bound) l e = λ s stands within. grind (arith, nat_tests, stands_above first.stamp files s)
+
+-- without the first file
+end_rest : (first : DiskFile) (files : List DiskFile) (below : Option ℕ) (n : ℕ) → end_of below (first ∷ files) ≡ suc n → end_of below files ≡ n
+end_rest first files None n e = omega (arith, e)
+end_rest first files (Some bound) n e = grind (arith, nat_tests)
+
+pub end_of-le : (files : List DiskFile) (below : Option ℕ) → end_of below files ≤ length files
+end_of-le files None = omega arith
+end_of-le files (Some bound) = place_of-le files bound
+
+last_within : (files : List DiskFile) (below : Option ℕ) (i : ℕ) (d : DiskFile) → end_of below files ≡ suc i → IsBelow below (get_or files i d).stamp
+last_within files None i d e = tt
+last_within [] (Some bound) i d e = grind arith
+last_within (first ∷ files) (Some bound) zero d e = grind (arith, nat_tests)
+last_within (first ∷ files) (Some bound) (suc i) d e = last_within files (Some bound) i d (end_rest first files (Some bound) (suc i) e)
+
+last_greatest : (files : List DiskFile) (below : Option ℕ) (i : ℕ) (d : DiskFile) → is_listed files ≡ true → end_of below files ≡ suc i → (s : ℕ) → IsSome (standing_in files s) → IsBelow below s → s ≤ (get_or files i d).stamp
+last_greatest [] below i d l e s stands within = grind arith
+last_greatest (first ∷ files) below zero d l e s stands within =
+    let none = none_below files below (grind (arith, nat_tests)) (end_rest first files below 0 e) s in
+    grind (arith, nat_tests)
+last_greatest (first ∷ files) below (suc i) d l e s stands within =
+    let listed : is_listed files ≡ true = grind (arith, nat_tests) in
+    let rest = end_rest first files below (suc i) e in
+    let later = last_greatest files below i d listed rest s in
+    let above = above_at first.stamp files i d (grind (arith, nat_tests)) (omega (arith, rest, end_of-le files below)) in
+    grind (arith, nat_tests)
+
+-- the last file of those before the bound's place has the greatest stamp
+pub last_below : (files : List DiskFile) (below : Option ℕ) (i : ℕ) (d : DiskFile) → is_listed files ≡ true → end_of below files ≡ suc i → IsNewest (standing_in files) below (get_or files i d).stamp
+last_below files below i d l e =
+    let within : i < length files = omega (arith, e, end_of-le files below) in
+    record {
+      stands = rw (standing_in-get files i d l within);
+      within = last_within files below i d e;
+      greatest = last_greatest files below i d l e;
+    }
+
+pub below_from : (below : Option ℕ) (stamp : ℕ) → IsBelow below stamp → IfSome below (λ bound. stamp < bound)
+below_from None stamp h = tt
+below_from (Some bound) stamp h = h

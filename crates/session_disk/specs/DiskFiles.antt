@@ -32,6 +32,11 @@ abbrev pub place_of : ℕ → List DiskFile → ℕ
 place_of bound [] = 0
 place_of bound (file ∷ files) = if nat_lt file.stamp bound then suc (place_of bound files) else 0
 
+-- how many files at the front are below a bound, where there is one
+abbrev pub end_of : Option ℕ → List DiskFile → ℕ
+end_of None files = length files
+end_of (Some bound) files = place_of bound files
+
 -- the stamps of the files whose names aren't settled
 abbrev pub unsettled_stamps : List DiskFile → List ℕ
 unsettled_stamps [] = []

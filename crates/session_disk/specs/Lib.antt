@@ -7,3 +7,4 @@ pub mod Histories
 pub mod DiskFiles
 pub mod ChangeLog
 pub mod Recordings
+pub mod MemoryDisks

@@ -2,14 +2,14 @@
 //! A look-up scans the list from its front: a disk holds few files.
 ghost use Rattle.std.specs.Prelude.{◌≡◌, ℕ, true, ◌+◌, ◌<◌, ◌≤◌, ◌^◌, [], ◌∷◌, ◌++◌, map, filter, not, length, max, Some, None, option_map, IfOk, OnOk, OnErr, IfSome, IsSome, IsNone, slice_index_or, vec_len, vec_capacity};
 ghost use Rattle.session_disk.specs.declared.disk_file.DiskFile.{DiskFile};
-ghost use Rattle.session_disk.specs.Moments.{Standing, with_file, settled_file};
-ghost use Rattle.session_disk.specs.DiskFiles.{standing_of, standing_in, is_listed, place_of, unsettled_stamps};
+ghost use Rattle.session_disk.specs.Moments.{Standing, with_file, settled_file, IsNewestBelow};
+ghost use Rattle.session_disk.specs.DiskFiles.{standing_of, standing_in, is_listed, place_of, end_of, unsettled_stamps};
 
 use std::alloc::{AllocError, Global};
 use std::marker::Model;
 
 /// The length that no file passes, 2^62.
-const LONGEST: u64 = 1 << 62;
+pub(crate) const LONGEST: u64 = 1 << 62;
 
 /// A file's bytes in one vector that doubles as it grows.
 #[derive(Drop)]
@@ -69,7 +69,8 @@ pub struct DiskFile {
 
 /// How many files at the front have stamps below a bound.
 pub(crate) fn place_of(files: &[DiskFile], stamp: u64) -> usize
-    ensures { result ≡ place_of stamp files.now }
+    ensures value { result ≡ place_of stamp files.now }
+    ensures bound { result ≤ length files.now }
 {
     for (i, file) in files.iter().enumerate() {
         if file.stamp >= stamp {
@@ -92,6 +93,30 @@ pub(crate) fn insert(files: &mut Vec<DiskFile>, file: DiskFile) -> Result<(), Al
     let place = place_of(files, file.stamp);
     files.insert(place, file)?;
     Ok(())
+}
+
+/// The greatest stamp, of those below the bound where one is given.
+pub(crate) fn newest_below(files: &[DiskFile], below: Option<u64>) -> Option<u64>
+    requires listed { is_listed files.now ≡ true }
+    ensures newest { IsNewestBelow (standing_in files.now) below result }
+    ensures in_range { IfSome result (λ stamp. stamp < 2 ^ 63) }
+    ensures within { IfSome result (λ stamp. IfSome below (λ bound. stamp < bound)) }
+{
+    let end = end_of(files, below);
+    if end == 0 {
+        return None;
+    }
+    Some(files[end - 1].stamp)
+}
+
+fn end_of(files: &[DiskFile], below: Option<u64>) -> usize
+    ensures value { result ≡ end_of below files.now }
+    ensures bound { result ≤ length files.now }
+{
+    match below {
+        None => files.len(),
+        Some(bound) => place_of(files, bound),
+    }
 }
 
 /// The place of a file that stands.

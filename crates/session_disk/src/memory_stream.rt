@@ -1,6 +1,7 @@
 //! A source and a sink over memory, whose calls fail where that is asked for.
 ghost use Rattle.std.specs.Prelude.{◌≡◌, ℕ, ◌<◌, ◌≤◌, ◌↔◌, [], ◌++◌, length, take, drop, min, IfOk, IsErr, IsTrue, Contains};
 ghost use Rattle.session_disk.specs.Causes.{HasCause};
+ghost use Rattle.session_disk.specs.Moments.{IsReadAt};
 ghost use Rattle.session_disk.specs.Streams.{TakesFrom, AddsTo};
 ghost use Rattle.session_disk.specs.MemoryStreams.{next_count};
 
@@ -158,4 +159,15 @@ fn is_named(calls: &[u64], call: u64) -> bool
     ensures { IsTrue result ↔ Contains calls.now call }
 {
     calls.contains(&call)
+}
+
+/// Copies what follows an offset, as far as there is room, and answers how many bytes.
+pub(crate) fn read_from(file: &[u8], offset: u64, into: &mut [u8]) -> usize
+    ensures bound { result ≤ length into.old }
+    ensures bytes { IsReadAt file.now offset result into.new }
+{
+    if offset >= file.len() as u64 {
+        return 0;
+    }
+    copy_front(&file[offset as usize..], into)
 }

@@ -1,10 +1,10 @@
 //! The files of a disk in memory with a log of each change. The earlier moments follow from the present by
 //! undoing the changes in turn, so that no moment is held twice.
-ghost use Rattle.std.specs.Prelude.{◌≡◌, true, ◌<◌, ◌≤◌, ◌^◌, [], length, IfOk, OnOk, OnErr, IsSome, IsNone};
+ghost use Rattle.std.specs.Prelude.{◌≡◌, true, ◌<◌, ◌≤◌, ◌^◌, [], length, IfOk, OnOk, OnErr, IfSome, IsSome, IsNone};
 ghost use Rattle.session_disk.specs.DiskFiles.{is_listed};
 
 use crate::change_log::{Undo, write_down};
-use crate::disk_file::{self, DiskFile, FileBytes};
+use crate::disk_file::{self, DiskFile, FileBytes, LONGEST};
 use std::alloc::{AllocError, Global};
 use std::mem;
 
@@ -20,10 +20,10 @@ pub(crate) struct Recording {
 }
 
 impl Recording {
-    ghost use Rattle.session_disk.specs.Moments.{bytes_at, after_create, after_append, after_sync, after_remove, after_settle, after_tell};
+    ghost use Rattle.session_disk.specs.Moments.{bytes_at, IsNewestBelow, after_create, after_append, after_sync, after_remove, after_settle, after_tell};
     ghost use Rattle.session_disk.specs.Histories.{after};
     ghost use Rattle.session_disk.specs.DiskFiles.{standing_in};
-    ghost use Rattle.session_disk.specs.Recordings.{history_of, empty_moment};
+    ghost use Rattle.session_disk.specs.Recordings.{history_of, empty_moment, with_safe_file};
 
     pub(crate) fn new(alloc: Global) -> Recording
         ensures { history_of result ≡ record { now = empty_moment; past = [] } }
@@ -42,6 +42,15 @@ impl Recording {
         ensures standing { (history_of self.now).now.standing ≡ standing_in result.now }
     {
         self.files.as_slice()
+    }
+
+    /// The greatest stamp, of those below the bound where one is given.
+    pub(crate) fn newest_below(&self, below: Option<u64>) -> Option<u64>
+        ensures newest { IsNewestBelow (history_of self.now).now.standing below result }
+        ensures in_range { IfSome result (λ stamp. stamp < 2 ^ 63) }
+        ensures within { IfSome result (λ stamp. IfSome below (λ bound. stamp < bound)) }
+    {
+        disk_file::newest_below(self.files.as_slice(), below)
     }
 
     pub(crate) fn bytes(&self, stamp: u64) -> &[u8]
@@ -123,6 +132,31 @@ impl Recording {
         disk_file::settle_all(&mut self.files);
         let removed = mem::replace(&mut self.removed, Vec::new(alloc));
         write_down(&mut self.log, Undo::Settled(unsettled, removed));
+        Ok(())
+    }
+
+    /// Adds a file that is synced and settled, and forgets the earlier moments.
+    pub(crate) fn add_file(&mut self, stamp: u64, bytes: &[u8]) -> Result<(), AllocError>
+        requires in_range { stamp < 2 ^ 63 }
+        requires absent { IsNone ((history_of self.old).now.standing stamp) }
+        ensures ok { OnOk result (history_of self.new ≡ record { now = with_safe_file stamp bytes.now (history_of self.old).now; past = [] }) }
+        ensures err { OnErr result (history_of self.new ≡ history_of self.old) }
+    {
+        let synced = bytes.len() as u64;
+        if synced > LONGEST {
+            return Err(AllocError);
+        }
+        let bytes = FileBytes::from_slice(*self.files.allocator(), bytes)?;
+        disk_file::insert(
+            &mut self.files,
+            DiskFile {
+                stamp,
+                bytes,
+                synced,
+                settled: true,
+            },
+        )?;
+        self.log.clear();
         Ok(())
     }
 
