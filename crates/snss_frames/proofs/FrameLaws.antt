@@ -1,12 +1,12 @@
 -- What holds of every frame: its length, that bytes with it in front begin a frame, that a part of it begins
 -- none, and that bytes begin with one frame only.
-use Rattle.std.proofs.Common.{◌≡◌, ℕ, ◌+◌, ◌-◌, suc, zero, ◌<◌, ◌≤◌, true, false, List, [], ◌∷◌, ◌++◌, length, take, drop, get_or, refl, sym, ap, ◌∙◌, inl, inr, arith}
+use Rattle.std.proofs.Common.{◌≡◌, ℕ, ◌+◌, ◌-◌, ◌*◌, suc, zero, ◌<◌, ◌≤◌, true, false, List, [], ◌∷◌, ◌++◌, length, take, drop, get_or, refl, sym, ap, ◌∙◌, inl, inr, arith}
 use Rattle.std.proofs.lemmas.Nat.{from_le_bytes-to_le_bytes_2, le_bytes_2}
 use Rattle.std.proofs.lemmas.Bool.{cases_lt}
 use Rattle.std.proofs.lemmas.Bool.Decides.{nat_tests}
-use Rattle.std.proofs.lemmas.List.{length-append, length-take, length-take-le, take-take, take-append-drop, take_at, drop_at}
+use Rattle.std.proofs.lemmas.List.{append-nil, length-append, length-take, length-take-le, take-take, take-append-drop, take_at, drop_at}
 use Rattle.std.specs.Int.{w16, to_le_bytes, from_le_bytes}
-use Rattle.snss_frames.specs.Frame.{Frame, IsFrame, frame, frame_bytes, size_of, begins_frame}
+use Rattle.snss_frames.specs.Frame.{Frame, IsFrame, BeginsWith, frame, frame_bytes, size_of, begins_frame}
 
 -- a frame has three bytes beside its payload
 pub length-frame : (id : ℕ) (payload : List ℕ) → length (frame id payload) ≡ 3 + length payload
@@ -28,10 +28,10 @@ pub begins_none_from : (bytes : List ℕ) → length bytes < 2 + size_of bytes �
 unfolding begins_frame
 begins_none_from bytes short = grind (arith, nat_tests)
 
--- nor where the size isn't whole
-pub begins_none_few : (bytes : List ℕ) → length bytes < 2 → begins_frame bytes ≡ false
+-- nor where the id isn't there
+pub begins_none_short : (bytes : List ℕ) → length bytes < 3 → begins_frame bytes ≡ false
 unfolding begins_frame
-begins_none_few bytes few = grind (arith, nat_tests)
+begins_none_short bytes short = grind (arith, nat_tests)
 
 -- nor where the size is 0
 pub begins_none_empty : (bytes : List ℕ) → size_of bytes ≡ 0 → begins_frame bytes ≡ false
@@ -68,11 +68,15 @@ begins_none-cut f more n h cut =
     let long = length-take n bytes in
     let whole = length-append (frame_bytes f) more in
     elim (cases_lt n 2) [
-      | inl few ↦ begins_none_few (take n bytes) (omega arith)
+      | inl few ↦ begins_none_short (take n bytes) (omega arith)
       | inr two ↦
           let size : size_of (take n bytes) ≡ 1 + length f.payload = size_of-take n bytes two ∙ size_of-frame f more h in
           begins_none_from (take n bytes) (omega arith)
     ]
+
+-- nor do fewer bytes of a frame alone
+pub begins_none-part : (f : Frame) (n : ℕ) → IsFrame f → n < length (frame_bytes f) → begins_frame (take n (frame_bytes f)) ≡ false
+begins_none-part f n h cut = rw (append-nil (frame_bytes f)) at (begins_none-cut f [] n h cut)
 
 frame_of : ℕ → List ℕ → Frame
 frame_of id payload = record { id = id; payload = payload }
@@ -107,23 +111,37 @@ two_range a b low high zero = low
 two_range a b low high (suc zero) = high
 two_range a b low high (suc (suc k)) = omega arith
 
-behind_size : (a b id : ℕ) (more : List ℕ) → ((k : ℕ) → get_or (a ∷ b ∷ id ∷ more) k 0 < 256) → (1 ≤ size_of (a ∷ b ∷ id ∷ more)) × (2 + size_of (a ∷ b ∷ id ∷ more) ≤ length (a ∷ b ∷ id ∷ more)) → (f : Frame) × (rest : List ℕ) × (a ∷ b ∷ id ∷ more ≡ frame_bytes f ++ rest) × IsFrame f
+-- the frame that stands where bytes begin one
+abbrev pub front : List ℕ → Frame
+front bytes = record { id = get_or bytes 2 0; payload = take (size_of bytes - 1) (drop 3 bytes) }
+
+behind_size : (a b id : ℕ) (more : List ℕ) → ((k : ℕ) → get_or (a ∷ b ∷ id ∷ more) k 0 < 256) → 1 ≤ size_of (a ∷ b ∷ id ∷ more) → 2 + size_of (a ∷ b ∷ id ∷ more) ≤ length (a ∷ b ∷ id ∷ more) → BeginsWith (a ∷ b ∷ id ∷ more) (front (a ∷ b ∷ id ∷ more))
 unfolding frame
-behind_size a b id more range t =
+behind_size a b id more range some there =
     let n = size_of (a ∷ b ∷ id ∷ more) - 1 in
-    let f : Frame = record { id = id; payload = take n more } in
     let below = size_below a b (id ∷ more) (range 0) (range 1) in
     let long : length (take n more) ≡ n = length-take-le n more (omega arith) in
     let size : 1 + length (take n more) ≡ size_of (a ∷ b ∷ id ∷ more) = omega arith in
-    let front : to_le_bytes w16 (1 + length (take n more)) ≡ a ∷ b ∷ [] =
+    let said : to_le_bytes w16 (1 + length (take n more)) ≡ a ∷ b ∷ [] =
     ap (to_le_bytes w16) size ∙ size_bytes a b (id ∷ more) (two_range a b (range 0) (range 1)) in
     let joined : to_le_bytes w16 (1 + length (take n more)) ++ id ∷ (take n more ++ drop n more) ≡ a ∷ b ∷ id ∷ more =
-    ap (λ (x : List ℕ). x ++ id ∷ (take n more ++ drop n more)) front ∙ ap (λ (x : List ℕ). a ∷ b ∷ id ∷ x) (take-append-drop n more) in
-    (f, drop n more, sym joined, record { id = range 2; payload = omega arith })
+    ap (λ (x : List ℕ). x ++ id ∷ (take n more ++ drop n more)) said ∙ ap (λ (x : List ℕ). a ∷ b ∷ id ∷ x) (take-append-drop n more) in
+    record { fits = record { id = range 2; payload = omega arith }; more = drop n more; whole = sym joined }
 
--- bytes that begin a frame are that frame and a rest
-pub first_of : (bytes : List ℕ) → ((k : ℕ) → get_or bytes k 0 < 256) → begins_frame bytes ≡ true → (f : Frame) × (rest : List ℕ) × (bytes ≡ frame_bytes f ++ rest) × IsFrame f
-first_of [] range begins = let t = begins_frame_tells [] begins in absurd (omega arith)
-first_of (a ∷ []) range begins = let t = begins_frame_tells (a ∷ []) begins in absurd (omega arith)
-first_of (a ∷ b ∷ []) range begins = let t = begins_frame_tells (a ∷ b ∷ []) begins in absurd (omega arith)
-first_of (a ∷ b ∷ id ∷ more) range begins = behind_size a b id more range (begins_frame_tells (a ∷ b ∷ id ∷ more) begins)
+-- bytes with a size that is there begin with that frame
+pub begins_with_front : (bytes : List ℕ) → ((k : ℕ) → get_or bytes k 0 < 256) → 1 ≤ size_of bytes → 2 + size_of bytes ≤ length bytes → BeginsWith bytes (front bytes)
+begins_with_front [] range some there = absurd (omega arith)
+begins_with_front (a ∷ []) range some there = absurd (omega arith)
+begins_with_front (a ∷ b ∷ []) range some there = absurd (omega arith)
+begins_with_front (a ∷ b ∷ id ∷ more) range some there = behind_size a b id more range some there
+
+-- bytes that begin a frame begin with that frame
+pub first_of : (bytes : List ℕ) → ((k : ℕ) → get_or bytes k 0 < 256) → begins_frame bytes ≡ true → BeginsWith bytes (front bytes)
+first_of bytes range begins = let t = begins_frame_tells bytes begins in begins_with_front bytes range t.0 t.1
+
+-- the size by its two bytes
+pub size_of-read : (bytes : List ℕ) → size_of bytes ≡ get_or bytes 0 0 + get_or bytes 1 0 * 256
+unfolding size_of
+size_of-read [] = refl
+size_of-read (a ∷ []) = refl
+size_of-read (a ∷ b ∷ more) = refl

@@ -6,7 +6,7 @@ use Rattle.std.proofs.Math.Seq.{take-append-add}
 use Rattle.std.specs.List.{AllByRecursion, flat_map}
 use Rattle.snss_frames.specs.Frame.{Frame, IsFrame, frame_bytes, begins_frame}
 use Rattle.snss_frames.specs.Reading.{Reads}
-use Rattle.snss_frames.proofs.FrameLaws.{length-frame, begins_frame-frame, begins_none_few, begins_none-cut, one_frame, first_of}
+use Rattle.snss_frames.proofs.FrameLaws.{length-frame, begins_frame-frame, begins_none_short, begins_none-cut, one_frame, front, first_of}
 
 -- a reading goes on behind a frame in front
 pub reading_behind : (f : Frame) (more : List ℕ) (fs : List Frame) (rest : List ℕ) → IsFrame f → Reads more fs rest → Reads (frame_bytes f ++ more) (f ∷ fs) rest
@@ -39,7 +39,7 @@ one_reading bytes (f ∷ fs) (g ∷ gs) r s left right =
 
 -- written frames read back
 pub reading_written : (fs : List Frame) → AllByRecursion IsFrame fs → Reads (flat_map frame_bytes fs) fs []
-reading_written fs each = record { whole = sym (append-nil (flat_map frame_bytes fs)); each = each; ended = begins_none_few [] (omega arith) }
+reading_written fs each = record { whole = sym (append-nil (flat_map frame_bytes fs)); each = each; ended = begins_none_short [] (omega arith) }
 
 -- The reading of the first n bytes of written frames: a count of the frames in front, which covers all frames
 -- that end within the n bytes.
@@ -86,7 +86,7 @@ reading_cut [] n each = record {
   count = 0;
   rest = [];
   within = omega arith;
-  reads = rw (take_all {A = ℕ} n [] (omega arith)) (reading_none [] (begins_none_few [] (omega arith)));
+  reads = rw (take_all {A = ℕ} n [] (omega arith)) (reading_none [] (begins_none_short [] (omega arith)));
   covers = λ k small _. small;
 }
 reading_cut (f ∷ fs) n each =
@@ -114,16 +114,18 @@ reading_first : (f : Frame) (more bytes : List ℕ) (fs : List Frame) (rest : Li
 reading_first f more bytes fs rest h split reads = rw split (reading_behind f more fs rest h reads)
 
 reading_within : (size : ℕ) (bytes : List ℕ) → length bytes ≤ size → ((k : ℕ) → get_or bytes k 0 < 256) → (fs : List Frame) × (rest : List ℕ) × Reads bytes fs rest
-reading_within zero bytes small range = ([], bytes, reading_none bytes (begins_none_few bytes (omega arith)))
+reading_within zero bytes small range = ([], bytes, reading_none bytes (begins_none_short bytes (omega arith)))
 reading_within (suc size) bytes small range =
     elim (cases_Bool (begins_frame bytes)) [
       | inl begins ↦
-          let (f, more, split, h) = first_of bytes range begins in
+          let f = front bytes in
+          let first = first_of bytes range begins in
+          let more = first.more in
           let long = length-append (frame_bytes f) more in
           let own = length-frame f.id f.payload in
-          let all = ap length split in
-          let (fs, rest, reads) = reading_within size more (omega arith) (range_behind (frame_bytes f) more bytes split range) in
-          (f ∷ fs, rest, reading_first f more bytes fs rest h split reads)
+          let all = ap length first.whole in
+          let (fs, rest, reads) = reading_within size more (omega arith) (range_behind (frame_bytes f) more bytes first.whole range) in
+          (f ∷ fs, rest, reading_first f more bytes fs rest first.fits first.whole reads)
       | inr none ↦ ([], bytes, reading_none bytes none)
     ]
 

@@ -1,6 +1,6 @@
 -- A command in a file: its size in two bytes, little-endian, its id in one byte, its payload. The size counts
 -- the id and the payload (Chromium's components/sessions/core/command_storage_backend.cc).
-use Rattle.std.specs.Prelude.{ℕ, ◌+◌, ◌<◌, ◌≤◌, Bool, List, [], ◌∷◌, ◌++◌, length, take, nat_le, ◌&&◌}
+use Rattle.std.specs.Prelude.{◌≡◌, ℕ, ◌+◌, ◌<◌, ◌≤◌, Bool, List, [], ◌∷◌, ◌++◌, length, take, nat_le, ◌&&◌}
 use Rattle.std.specs.Int.{w16, to_le_bytes, from_le_bytes}
 
 pub record Frame : Type 0 where
@@ -26,6 +26,12 @@ size_of bytes = from_le_bytes w16 (take 2 bytes)
 -- whether bytes begin with a whole frame
 unfoldable pub begins_frame : List ℕ → Bool
 begins_frame bytes = nat_le 2 (length bytes) && nat_le 1 (size_of bytes) && nat_le (2 + size_of bytes) (length bytes)
+
+-- bytes begin with a frame
+pub record BeginsWith (bytes : List ℕ) (f : Frame) : Type 0 where
+  pub fits : IsFrame f
+  pub more : List ℕ
+  pub whole : bytes ≡ frame_bytes f ++ more
 
 -- the initial-state marker: the id 255 without a payload
 abbrev pub marker : Frame

@@ -17,6 +17,6 @@ abbrev pub offset_after : ℕ → List Frame → ℕ
 offset_after at frames = at + length (flat_map frame_bytes frames)
 
 -- how a file ends whose rest begins at this offset
-abbrev pub ending_of : ℕ → List ℕ → Ending
-ending_of at rest =
+abbrev pub ending_at : ℕ → List ℕ → Ending
+ending_at at rest =
     if length rest == 0 then Whole else (if length rest == 1 then CutSize at else (if size_of rest == 0 then EmptyCommand at else CutBody at (size_of rest) (length rest - 2)))

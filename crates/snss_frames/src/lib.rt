@@ -5,8 +5,8 @@ mod ending;
 mod frame;
 mod header;
 
-pub use ending::Ending;
-pub use frame::write_frame;
+pub use ending::{Ending, ending_of};
+pub use frame::{FrameRef, PAYLOAD_MAX, first_frame, write_frame};
 pub use header::{HeaderFault, Version, read_header, write_header};
 
 #[cfg(test)]
