@@ -6,7 +6,7 @@ mod frame;
 mod header;
 
 pub use ending::{Ending, ending_of};
-pub use frame::{FrameRef, PAYLOAD_MAX, first_frame, write_frame};
+pub use frame::{FrameRef, first_frame, write_frame};
 pub use header::{HeaderFault, Version, read_header, write_header};
 
 #[cfg(test)]
