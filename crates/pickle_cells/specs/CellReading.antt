@@ -51,17 +51,21 @@ text_at place size unread =
     if nat_lt (length unread.bytes) (size + padding size) then Err (Short place) else Ok (take size unread.bytes, past (size + padding size) unread)
 
 -- what follows a count of characters of width bytes each, in the item that begins at a place
-abbrev pub counted_at : ℕ → ℕ → ℤ × Unread → Result (List ℕ × Unread) PickleFault
-counted_at width place (pos count, unread) = text_at place (width * count) unread
-counted_at width place (negsuc below, unread) = Err (NegativeLength place (negsuc below))
+abbrev pub characters_at : ℕ → ℕ → ℤ × Unread → Result (List ℕ × Unread) PickleFault
+characters_at width place (pos count, unread) = text_at place (width * count) unread
+characters_at width place (negsuc below, unread) = Err (NegativeLength place (negsuc below))
+
+-- the bytes of a count of characters of width bytes each
+unfoldable pub counted_at : ℕ → Unread → Result (List ℕ × Unread) PickleFault
+counted_at width unread = int_at unread >>= characters_at width unread.place
 
 -- the bytes of a string
-unfoldable pub string_at : Unread → Result (List ℕ × Unread) PickleFault
-string_at unread = int_at unread >>= counted_at 1 unread.place
+abbrev pub string_at : Unread → Result (List ℕ × Unread) PickleFault
+string_at unread = counted_at 1 unread
 
 -- the bytes of a string of 16-bit units
-unfoldable pub string16_at : Unread → Result (List ℕ × Unread) PickleFault
-string16_at unread = int_at unread >>= counted_at 2 unread.place
+abbrev pub string16_at : Unread → Result (List ℕ × Unread) PickleFault
+string16_at unread = counted_at 2 unread
 
 -- the 16-bit units that stand as these bytes
 unfoldable pub units_of : List ℕ → List ℕ

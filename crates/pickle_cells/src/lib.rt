@@ -1,12 +1,16 @@
-//! Byte strings and the items of pickles, Chromium's format of values one after another
+//! Byte strings, texts of 16-bit units and the items of pickles, Chromium's format of values one after another
 //! (base/pickle.h). Stands on no other crate.
 #![tactic(auto)]
 
 mod blob;
+mod cursor;
 mod fault;
+mod text16;
 
 pub use blob::Blob;
+pub use cursor::Cursor;
 pub use fault::PickleFault;
+pub use text16::Text16;
 
 #[cfg(test)]
 mod tests;
