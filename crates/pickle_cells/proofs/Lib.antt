@@ -1,1 +1,5 @@
+pub mod CellLaws
+pub mod ItemLaws
+pub mod PickleLaws
+pub mod UnitLaws
 mod WorkedPayloads

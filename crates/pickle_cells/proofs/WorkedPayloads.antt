@@ -3,7 +3,7 @@ use Rattle.std.proofs.Common.{◌≡◌, ℕ, List, [], ◌∷◌, Result, Ok, E
 use Rattle.pickle_cells.specs.declared.fault.PickleFault.{PickleFault}
 use Rattle.pickle_cells.specs.declared.fault.PickleFault.TheVariants.{Short, SizeField, NegativeLength}
 use Rattle.pickle_cells.specs.Cell.{int, uint32, padding, counted, pickle}
-use Rattle.pickle_cells.specs.CellReading.{past, number_at, int_at, text_at, counted_at, body_at}
+use Rattle.pickle_cells.specs.CellReading.{past, number_at, signed_at, text_at, counted_at, body_at}
 use Rattle.pickle_cells.specs.PickleLayout.{Item, Int, Text, ItemKind, IntKind, TextKind, item_bytes, items_bytes, pickled_bytes, item_at, items_at, pickled_at}
 
 abbrev app : List Item
@@ -21,15 +21,15 @@ written = refl
 
 -- any padding is read, and the tail is what is left
 read : pickled_at app_kinds (16 ∷ 0 ∷ 0 ∷ 0 ∷ 1 ∷ 0 ∷ 0 ∷ 0 ∷ 2 ∷ 0 ∷ 0 ∷ 0 ∷ 97 ∷ 98 ∷ 255 ∷ 7 ∷ 1 ∷ 2 ∷ 3 ∷ 4 ∷ []) ≡ (let r : outcome = Ok (app, 1 ∷ 2 ∷ 3 ∷ 4 ∷ []) in r)
-unfolding pickled_at body_at items_at item_at int_at counted_at number_at text_at past padding
+unfolding pickled_at body_at items_at item_at signed_at counted_at number_at text_at past padding
 read = refl
 
 negative : pickled_at app_kinds (8 ∷ 0 ∷ 0 ∷ 0 ∷ 1 ∷ 0 ∷ 0 ∷ 0 ∷ 255 ∷ 255 ∷ 255 ∷ 255 ∷ []) ≡ (let r : outcome = Err (NegativeLength 8 (negsuc 0)) in r)
-unfolding pickled_at body_at items_at item_at int_at counted_at number_at text_at past padding
+unfolding pickled_at body_at items_at item_at signed_at counted_at number_at text_at past padding
 negative = refl
 
 short : pickled_at app_kinds (8 ∷ 0 ∷ 0 ∷ 0 ∷ 1 ∷ 0 ∷ 0 ∷ 0 ∷ 5 ∷ 0 ∷ 0 ∷ 0 ∷ []) ≡ (let r : outcome = Err (Short 8) in r)
-unfolding pickled_at body_at items_at item_at int_at counted_at number_at text_at past padding
+unfolding pickled_at body_at items_at item_at signed_at counted_at number_at text_at past padding
 short = refl
 
 size : pickled_at app_kinds (9 ∷ 0 ∷ 0 ∷ 0 ∷ 1 ∷ 0 ∷ 0 ∷ 0 ∷ []) ≡ (let r : outcome = Err (SizeField 9 4) in r)

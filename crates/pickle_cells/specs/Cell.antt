@@ -1,7 +1,7 @@
 -- Values as the bytes in which they stand in a pickle and in a fixed payload: little-endian, a signed number by
 -- its two's complement. In a pickle each value is padded to a multiple of 4 bytes (Chromium's base/pickle.cc);
 -- the padding of a string is free when it is read and 0 when it is written (this profile).
-use Rattle.std.specs.Prelude.{◌≡◌, ℕ, ◌-◌, ◌%◌, ◌<◌, ◌^◌, ℤ, pos, Bool, not, ◌==◌, List, ◌++◌, length, replicate}
+use Rattle.std.specs.Prelude.{◌≡◌, ℕ, ◌-◌, ◌%◌, ◌<◌, ◌^◌, ℤ, pos, Bool, not, ◌==◌, List, ◌++◌, length, replicate, get_or}
 use Rattle.std.specs.List.{flat_map, AllByRecursion}
 use Rattle.std.specs.Int.{w16, w32, w64, to_le_bytes, cast_unsigned, from_bool}
 
@@ -67,3 +67,7 @@ IsPickle body bytes = (length body % 4 ≡ 0) × (bytes ≡ uint32 (length body)
 
 unfoldable pub pickle : List ℕ → List ℕ
 pickle body = uint32 (length body) ++ body
+
+-- each is a byte, as those of a slice are
+abbrev pub IsBytes : List ℕ → Type 0
+IsBytes bytes = (i : ℕ) → get_or bytes i 0 < 256

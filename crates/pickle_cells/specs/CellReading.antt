@@ -36,12 +36,17 @@ uint32_at unread = number_at w32 unread
 abbrev pub uint64_at : Unread → Result (ℕ × Unread) PickleFault
 uint64_at unread = number_at w64 unread
 
-unfoldable pub int_at : Unread → Result (ℤ × Unread) PickleFault
-int_at unread = uint32_at unread >>= λ n. Ok (cast_signed w32 n.0, n.1)
+-- a signed number
+unfoldable pub signed_at : Width → Unread → Result (ℤ × Unread) PickleFault
+signed_at w unread = number_at w unread >>= λ n. Ok (cast_signed w n.0, n.1)
 
-unfoldable pub int64_at : Unread → Result (ℤ × Unread) PickleFault
-int64_at unread = uint64_at unread >>= λ n. Ok (cast_signed w64 n.0, n.1)
+abbrev pub int_at : Unread → Result (ℤ × Unread) PickleFault
+int_at unread = signed_at w32 unread
 
+abbrev pub int64_at : Unread → Result (ℤ × Unread) PickleFault
+int64_at unread = signed_at w64 unread
+
+-- a truth value
 unfoldable pub flag_at : Unread → Result (Bool × Unread) PickleFault
 flag_at unread = uint32_at unread >>= λ n. Ok (not (n.0 == 0), n.1)
 

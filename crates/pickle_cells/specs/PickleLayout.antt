@@ -1,6 +1,6 @@
 -- Payloads that are a pickle: items one after another, then a tail, whose length is a multiple of 4. A row of a
 -- table of commands says its items and its tail; the bytes, the written bytes and the faults follow from them.
-use Rattle.std.specs.Prelude.{◌≡◌, ℕ, ◌<◌, ◌^◌, ℤ, Bool, List, [], ◌∷◌, ◌++◌, length, Result, Ok, Err, Option, Some, None, FitsSigned}
+use Rattle.std.specs.Prelude.{◌≡◌, ℕ, ◌+◌, ◌<◌, ◌^◌, ℤ, Bool, List, [], ◌∷◌, ◌++◌, length, Result, Ok, Err, Option, Some, None, FitsSigned}
 use Rattle.std.specs.List.{AllByRecursion}
 use Rattle.std.specs.Int.{w32, w64}
 use Rattle.pickle_cells.specs.declared.fault.PickleFault.{PickleFault}
@@ -111,3 +111,7 @@ fault_of (Err fault) = Some fault
 -- why a payload isn't one of this shape: its first fault
 abbrev pub pickled_fault : List ItemKind → List ℕ → Option PickleFault
 pickled_fault kinds payload = fault_of (pickled_at kinds payload)
+
+-- what a call that reads an item took: a cell of the item, exactly
+abbrev pub Takes : Unread → Item → Unread → Type 0
+Takes old item new = (cell : List ℕ) × IsItem item cell × (old.bytes ≡ cell ++ new.bytes) × (new.place ≡ old.place + length cell)

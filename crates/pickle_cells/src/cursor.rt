@@ -51,7 +51,7 @@ impl<'a> Cursor<'a> {
     }
 
     /// The next signed number of 4 bytes. `Short` where fewer are left.
-    #[tactic(auto, unfolding(crate::specs::CellReading::int_at))]
+    #[tactic(auto, unfolding(crate::specs::CellReading::signed_at))]
     pub fn int(&mut self) -> Result<i32, PickleFault>
         ensures exact { Gives (λ z. z) self.old result self.new (int_at self.old) }
     {
@@ -60,7 +60,7 @@ impl<'a> Cursor<'a> {
     }
 
     /// The next signed number of 8 bytes. `Short` where fewer are left.
-    #[tactic(auto, unfolding(crate::specs::CellReading::int64_at))]
+    #[tactic(auto, unfolding(crate::specs::CellReading::signed_at))]
     pub fn int64(&mut self) -> Result<i64, PickleFault>
         ensures exact { Gives (λ z. z) self.old result self.new (int64_at self.old) }
     {
@@ -99,7 +99,7 @@ impl<'a> Cursor<'a> {
         self.unread
     }
 
-    #[tactic(auto, unfolding(crate::specs::CellReading::counted_at, crate::specs::CellReading::int_at, crate::specs::CellReading::number_at, crate::specs::CellReading::past, crate::specs::CellReading::text_at))]
+    #[tactic(auto, unfolding(crate::specs::CellReading::counted_at, crate::specs::CellReading::signed_at, crate::specs::CellReading::number_at, crate::specs::CellReading::past, crate::specs::CellReading::text_at))]
     fn counted(&mut self, width: usize) -> Result<&'a [u8], PickleFault>
         requires { width ≤ 2 }
         ensures exact { Gives (λ text. text.now) self.old result self.new (counted_at width self.old) }

@@ -6,11 +6,13 @@ mod blob;
 mod cursor;
 mod fault;
 mod text16;
+mod writer;
 
 pub use blob::Blob;
 pub use cursor::Cursor;
 pub use fault::PickleFault;
 pub use text16::Text16;
+pub use writer::PickleWriter;
 
 #[cfg(test)]
 mod tests;

@@ -71,10 +71,8 @@ fn paired(alloc: Global, bytes: &[u8]) -> Result<Vec<u16>, AllocError>
     ensures { IfOk result (λ v. v.items ≡ units_of bytes.now) }
 {
     let mut units = Vec::with_capacity(alloc, bytes.len() / 2)?;
-    let mut left = bytes;
-    while let [low, high, rest @ ..] = left {
-        units.push(u16::from_le_bytes([*low, *high]))?;
-        left = rest;
+    for i in 0..bytes.len() / 2 {
+        units.push(u16::from_le_bytes([bytes[2 * i], bytes[2 * i + 1]]))?;
     }
     Ok(units)
 }
