@@ -1,3 +1,4 @@
+mod Calls
 pub mod CellLaws
 pub mod ItemLaws
 pub mod PickleLaws

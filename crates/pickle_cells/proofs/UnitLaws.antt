@@ -59,3 +59,10 @@ units_of-drop bytes i lt =
     let k : 2 * (i + 1) ≡ suc (suc (2 * i)) = omega arith in
     let j : 2 * i + 1 ≡ suc (2 * i) = omega arith in
     rw (first, second, k, j) refl
+
+-- a single byte is no unit
+pub units_of-short : (bytes : List ℕ) → length bytes < 2 → units_of bytes ≡ []
+unfolding units_of
+units_of-short [] lt = refl
+units_of-short (low ∷ []) lt = refl
+units_of-short (low ∷ high ∷ bytes) lt = absurd (omega arith)

@@ -1,8 +1,9 @@
 //! Reading the items of a pickle, one after another, without a copy.
-ghost use Rattle.std.specs.Prelude.{◌≡◌, ◌+◌, ◌*◌, ◌<◌, ◌≤◌, ◌^◌, length, take, drop, Ok, Err, MatchResult};
+ghost use Rattle.std.specs.Prelude.{◌≡◌, ℕ, ◌+◌, ◌*◌, ◌%◌, ◌<◌, ◌≤◌, ◌^◌, ℤ, Bool, List, length, take, drop, Ok, Err, MatchResult, IfOk, IsOkAnd};
 ghost use Rattle.std.specs.Int.{w32, w64, from_le_bytes};
-ghost use Rattle.pickle_cells.specs.Cell.{padding};
-ghost use Rattle.pickle_cells.specs.CellReading.{Gives, uint32_at, uint64_at, int_at, int64_at, flag_at, string_at, string16_at, counted_at, body_at};
+ghost use Rattle.pickle_cells.specs.Cell.{padding, unit_bytes, IsBytes};
+ghost use Rattle.pickle_cells.specs.PickleLayout.{Int, Int64, Uint32, Uint64, Flag, Text, Units, Takes};
+ghost use Rattle.pickle_cells.specs.CellReading.{Unread, Gives, units_of, uint32_at, uint64_at, int_at, int64_at, flag_at, string_at, string16_at, counted_at, body_at};
 ghost use Rattle.pickle_cells.specs.declared.fault.PickleFault.TheVariants.{Short};
 
 use crate::fault::PickleFault;
@@ -28,68 +29,98 @@ impl<'a> Model for Cursor<'a> {
 }
 
 impl<'a> Cursor<'a> {
+    /// A cursor before the first item of a pickle. `Short` at 0 where the size field isn't there, `SizeField`
+    /// where it isn't the number of bytes behind it or isn't a multiple of 4.
+    #[tactic(auto, unfolding(crate::specs::CellReading::body_at))]
+    pub fn new(pickle: &'a [u8]) -> Result<Cursor<'a>, PickleFault>
+        requires { length pickle.now ≤ 65534 }
+        ensures exact { body_at pickle.now ≡ result }
+    {
+        let present = pickle.len();
+        if present < 4 {
+            return Err(PickleFault::Short { at: 0 });
+        }
+        let (front, body) = pickle.split_at(4);
+        let said = u32::from_le_bytes([front[0], front[1], front[2], front[3]]);
+        let present = (present - 4) as u32;
+        if said != present || said % 4 != 0 {
+            return Err(PickleFault::SizeField { said, present });
+        }
+        Ok(Cursor {
+            place: 4,
+            unread: body,
+        })
+    }
+
     /// The next number of 4 bytes. `Short` where fewer are left.
-    #[tactic(auto, unfolding(crate::specs::CellReading::number_at, crate::specs::CellReading::past))]
     pub fn uint32(&mut self) -> Result<u32, PickleFault>
+        ensures found { IfOk result (λ n. Takes self.old (Uint32 n) self.new) }
+        ensures only { (n : ℕ) (rest : Unread) → Takes self.old (Uint32 n) rest → IsOkAnd result (λ r. r ≡ n) × (self.new ≡ rest) }
         ensures exact { Gives (λ n. n) self.old result self.new (uint32_at self.old) }
     {
-        let (number, rest) = uint32_in(self.place, self.unread)?;
-        self.place += 4;
-        self.unread = rest;
-        Ok(number)
+        known(self.unread);
+        self.next_uint32()
     }
 
     /// The next number of 8 bytes. `Short` where fewer are left.
-    #[tactic(auto, unfolding(crate::specs::CellReading::number_at, crate::specs::CellReading::past))]
     pub fn uint64(&mut self) -> Result<u64, PickleFault>
+        ensures found { IfOk result (λ n. Takes self.old (Uint64 n) self.new) }
+        ensures only { (n : ℕ) (rest : Unread) → Takes self.old (Uint64 n) rest → IsOkAnd result (λ r. r ≡ n) × (self.new ≡ rest) }
         ensures exact { Gives (λ n. n) self.old result self.new (uint64_at self.old) }
     {
-        let (number, rest) = uint64_in(self.place, self.unread)?;
-        self.place += 8;
-        self.unread = rest;
-        Ok(number)
+        known(self.unread);
+        self.next_uint64()
     }
 
     /// The next signed number of 4 bytes. `Short` where fewer are left.
-    #[tactic(auto, unfolding(crate::specs::CellReading::signed_at))]
     pub fn int(&mut self) -> Result<i32, PickleFault>
+        ensures found { IfOk result (λ z. Takes self.old (Int z) self.new) }
+        ensures only { (z : ℤ) (rest : Unread) → Takes self.old (Int z) rest → IsOkAnd result (λ r. r ≡ z) × (self.new ≡ rest) }
         ensures exact { Gives (λ z. z) self.old result self.new (int_at self.old) }
     {
-        let number = self.uint32()?;
-        Ok(number.cast_signed())
+        known(self.unread);
+        self.next_int()
     }
 
     /// The next signed number of 8 bytes. `Short` where fewer are left.
-    #[tactic(auto, unfolding(crate::specs::CellReading::signed_at))]
     pub fn int64(&mut self) -> Result<i64, PickleFault>
+        ensures found { IfOk result (λ z. Takes self.old (Int64 z) self.new) }
+        ensures only { (z : ℤ) (rest : Unread) → Takes self.old (Int64 z) rest → IsOkAnd result (λ r. r ≡ z) × (self.new ≡ rest) }
         ensures exact { Gives (λ z. z) self.old result self.new (int64_at self.old) }
     {
-        let number = self.uint64()?;
-        Ok(number.cast_signed())
+        known(self.unread);
+        self.next_int64()
     }
 
     /// The next truth value, true where its 4 bytes aren't all 0. `Short` where fewer are left.
-    #[tactic(auto, unfolding(crate::specs::CellReading::flag_at))]
     pub fn flag(&mut self) -> Result<bool, PickleFault>
+        ensures found { IfOk result (λ b. Takes self.old (Flag b) self.new) }
+        ensures only { (b : Bool) (rest : Unread) → Takes self.old (Flag b) rest → IsOkAnd result (λ r. r ≡ b) × (self.new ≡ rest) }
         ensures exact { Gives (λ b. b) self.old result self.new (flag_at self.old) }
     {
-        let number = self.uint32()?;
-        Ok(number != 0)
+        known(self.unread);
+        self.next_flag()
     }
 
     /// The bytes of the next string. `NegativeLength` where its count is negative, `Short` where the count, the
     /// bytes or their padding aren't all left.
     pub fn bytes(&mut self) -> Result<&'a [u8], PickleFault>
+        ensures found { IfOk result (λ text. Takes self.old (Text text.now) self.new) }
+        ensures only { (text : List ℕ) (rest : Unread) → Takes self.old (Text text) rest → IsOkAnd result (λ r. r.now ≡ text) × (self.new ≡ rest) }
         ensures exact { Gives (λ text. text.now) self.old result self.new (string_at self.old) }
     {
-        self.counted(1)
+        known(self.unread);
+        self.next_counted(1)
     }
 
     /// The bytes of the next string of 16-bit units, two a unit. The faults are those of `bytes`.
     pub fn units(&mut self) -> Result<&'a [u8], PickleFault>
+        ensures found { IfOk result (λ text. (length text.now % 2 ≡ 0) × Takes self.old (Units (units_of text.now)) self.new) }
+        ensures only { (units : List ℕ) (rest : Unread) → Takes self.old (Units units) rest → IsOkAnd result (λ r. r.now ≡ unit_bytes units) × (self.new ≡ rest) }
         ensures exact { Gives (λ text. text.now) self.old result self.new (string16_at self.old) }
     {
-        self.counted(2)
+        known(self.unread);
+        self.next_counted(2)
     }
 
     /// All that is left.
@@ -99,8 +130,52 @@ impl<'a> Cursor<'a> {
         self.unread
     }
 
+    #[tactic(auto, unfolding(crate::specs::CellReading::number_at, crate::specs::CellReading::past))]
+    fn next_uint32(&mut self) -> Result<u32, PickleFault>
+        ensures exact { Gives (λ n. n) self.old result self.new (uint32_at self.old) }
+    {
+        let (number, rest) = uint32_in(self.place, self.unread)?;
+        self.place += 4;
+        self.unread = rest;
+        Ok(number)
+    }
+
+    #[tactic(auto, unfolding(crate::specs::CellReading::number_at, crate::specs::CellReading::past))]
+    fn next_uint64(&mut self) -> Result<u64, PickleFault>
+        ensures exact { Gives (λ n. n) self.old result self.new (uint64_at self.old) }
+    {
+        let (number, rest) = uint64_in(self.place, self.unread)?;
+        self.place += 8;
+        self.unread = rest;
+        Ok(number)
+    }
+
+    #[tactic(auto, unfolding(crate::specs::CellReading::signed_at))]
+    fn next_int(&mut self) -> Result<i32, PickleFault>
+        ensures exact { Gives (λ z. z) self.old result self.new (int_at self.old) }
+    {
+        let number = self.next_uint32()?;
+        Ok(number.cast_signed())
+    }
+
+    #[tactic(auto, unfolding(crate::specs::CellReading::signed_at))]
+    fn next_int64(&mut self) -> Result<i64, PickleFault>
+        ensures exact { Gives (λ z. z) self.old result self.new (int64_at self.old) }
+    {
+        let number = self.next_uint64()?;
+        Ok(number.cast_signed())
+    }
+
+    #[tactic(auto, unfolding(crate::specs::CellReading::flag_at))]
+    fn next_flag(&mut self) -> Result<bool, PickleFault>
+        ensures exact { Gives (λ b. b) self.old result self.new (flag_at self.old) }
+    {
+        let number = self.next_uint32()?;
+        Ok(number != 0)
+    }
+
     #[tactic(auto, unfolding(crate::specs::CellReading::counted_at, crate::specs::CellReading::signed_at, crate::specs::CellReading::number_at, crate::specs::CellReading::past, crate::specs::CellReading::text_at))]
-    fn counted(&mut self, width: usize) -> Result<&'a [u8], PickleFault>
+    fn next_counted(&mut self, width: usize) -> Result<&'a [u8], PickleFault>
         requires { width ≤ 2 }
         ensures exact { Gives (λ text. text.now) self.old result self.new (counted_at width self.old) }
     {
@@ -117,6 +192,12 @@ impl<'a> Cursor<'a> {
         self.unread = rest;
         Ok(text)
     }
+}
+
+// The range of the bytes behind a slice, for the proofs of the calls above.
+fn known(bytes: &[u8])
+    ensures { IsBytes bytes.now }
+{
 }
 
 fn uint32_in(place: u32, bytes: &[u8]) -> Result<(u32, &[u8]), PickleFault>

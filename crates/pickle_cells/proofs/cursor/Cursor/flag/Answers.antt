@@ -1,0 +1,13 @@
+use Rattle.pickle_cells.specs.CellReading.{flag_at}
+use Rattle.pickle_cells.specs.PickleLayout.{Flag, Takes}
+use Rattle.pickle_cells.proofs.Calls.{fits_by, found_by, only_by}
+use Rattle.pickle_cells.proofs.ItemLaws.{flag_found, flag_only}
+use Rattle.pickle_cells.proofs.cursor.Cursor.flag.Goals as goal
+
+pub returns-clause-found : goal.returns-clause-found
+returns-clause-found c =
+    let fits = fits_by _ _ c.args.self.now c.self.view_is c.known.ensures in
+    found_by (λ v. v) (λ v new. Takes c.args.self.now (Flag v) new) c.args.self.now c.next_flag.new.self (flag_at c.args.self.now) c.next_flag.result (λ v new e. flag_found c.args.self.now v new fits e) c.next_flag.ensures.exact
+
+pub returns-clause-only : goal.returns-clause-only
+returns-clause-only c = λ v rest takes. only_by (λ v. v) c.args.self.now c.next_flag.new.self (flag_at c.args.self.now) c.next_flag.result v rest (flag_only c.args.self.now v rest takes) c.next_flag.ensures.exact
