@@ -49,8 +49,11 @@ pub length-pickle : (body : List ℕ) → length (pickle body) ≡ 4 + length bo
 unfolding pickle
 length-pickle body = omega (arith, length-uint32 (length body), length-append (uint32 (length body)) body)
 
+pub counted_whole : (count : ℕ) (text : List ℕ) → length (counted count text) % 4 ≡ 0
+counted_whole count text = omega (arith, length-counted count text, padded (length text))
+
 -- what std's tactics want to know of written cells
-pub ruleset lengths = (length-int, length-int64, length-uint32, length-uint64, length-flag, length-counted, length-pickle, length-unit_bytes)
+pub ruleset lengths = (counted_whole, length-int, length-int64, length-uint32, length-uint64, length-flag, length-counted, length-pickle, length-unit_bytes)
 
 -- ---- one item
 

@@ -3,4 +3,5 @@ pub mod CellLaws
 pub mod ItemLaws
 pub mod PickleLaws
 pub mod UnitLaws
+mod Room
 mod WorkedPayloads

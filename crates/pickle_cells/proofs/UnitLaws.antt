@@ -1,8 +1,10 @@
 -- Texts of 16-bit units as bytes, and back.
-use Rattle.std.proofs.Common.{◌≡◌, ℕ, zero, suc, ◌+◌, ◌*◌, ◌/◌, ◌%◌, ◌^◌, ◌<◌, ◌≤◌, List, [], ◌∷◌, ◌++◌, length, get_or, drop, refl, sym, ap, ◌∙◌, arith, drop-cons}
+use Rattle.std.proofs.Common.{◌≡◌, ℕ, zero, suc, ◌+◌, ◌*◌, ◌/◌, ◌%◌, ◌^◌, ◌<◌, ◌≤◌, List, [], ◌∷◌, ◌++◌, length, get_or, take, drop, append_assoc, refl, sym, ap, ◌∙◌, arith, drop-cons}
 use Rattle.std.specs.Int.{w16, to_le_bytes, from_le_bytes}
 use Rattle.std.specs.List.{flat_map, AllByRecursion}
 use Rattle.std.proofs.lemmas.Nat.{le_bytes_2, from_le_bytes-to_le_bytes_2}
+use Rattle.std.proofs.lemmas.List.{flat_map_more}
+use Rattle.std.proofs.lemmas.Grind.{common_steps}
 use Rattle.pickle_cells.specs.Cell.{unit_bytes, IsBytes}
 use Rattle.pickle_cells.specs.CellReading.{units_of}
 
@@ -10,6 +12,21 @@ pub length-unit_bytes : (units : List ℕ) → length (unit_bytes units) ≡ 2 *
 unfolding unit_bytes
 length-unit_bytes [] = refl
 length-unit_bytes (unit ∷ units) = omega (arith, length-unit_bytes units)
+
+pub ruleset unit_lengths = (length-unit_bytes)
+
+pub unit_bytes-none : unit_bytes [] ≡ []
+unfolding unit_bytes
+unit_bytes-none = refl
+
+-- one more unit is two more bytes
+pub unit_bytes-take : (units : List ℕ) (i : ℕ) (d : ℕ) → i < length units → unit_bytes (take (i + 1) units) ≡ unit_bytes (take i units) ++ to_le_bytes w16 (get_or units i d)
+unfolding unit_bytes
+unit_bytes-take units i d lt =
+    let more : take (i + 1) units ≡ take i units ++ get_or units i d ∷ [] = grind (arith, common_steps) in
+    rw more (sym (flat_map_more (to_le_bytes w16) [] (take i units) (get_or units i d)))
+
+pub ruleset unit_steps = (unit_bytes-none, unit_bytes-take, append_assoc)
 
 pub length-units_of : (bytes : List ℕ) → length (units_of bytes) ≡ length bytes / 2
 unfolding units_of

@@ -197,8 +197,7 @@ impl<'a> Cursor<'a> {
 // The range of the bytes behind a slice, for the proofs of the calls above.
 fn known(bytes: &[u8])
     ensures { IsBytes bytes.now }
-{
-}
+{}
 
 fn uint32_in(place: u32, bytes: &[u8]) -> Result<(u32, &[u8]), PickleFault>
     ensures { MatchResult result (λ x. (4 ≤ length bytes.now) × (x.0 ≡ from_le_bytes w32 (take 4 bytes.now)) × (x.1.now ≡ drop 4 bytes.now)) (λ fault. (length bytes.now < 4) × (fault ≡ Short place)) }
