@@ -10,7 +10,7 @@ use Rattle.std.proofs.lemmas.Nat.{le_bytes_4, le_bytes_8, from_le_bytes-to_le_by
 use Rattle.pickle_cells.specs.declared.fault.PickleFault.{PickleFault}
 use Rattle.pickle_cells.specs.declared.fault.PickleFault.TheVariants.{Short, SizeField, NegativeLength}
 use Rattle.pickle_cells.specs.Cell.{IsBytes, int, int64, uint32, uint64, padding, IsFlag, IsCounted}
-use Rattle.pickle_cells.specs.CellReading.{Unread, ◌>>=◌, past, number_at, uint32_at, uint64_at, signed_at, int_at, int64_at, flag_at, text_at, characters_at, counted_at}
+use Rattle.pickle_cells.specs.CellReading.{Unread, ◌>>=◌, told, past, number_at, uint32_at, uint64_at, signed_at, int_at, int64_at, flag_at, text_at, characters_at, counted_at}
 
 pub IsBytes-drop : (n : ℕ) (bytes : List ℕ) → IsBytes bytes → IsBytes (drop n bytes)
 IsBytes-drop n bytes h i = rw get_or-drop (h (n + i))
@@ -103,7 +103,7 @@ wide64 = record {
 pub number_takes : (w : Width) (limit : ℕ) → IsWide w limit → (old : Unread) (n : ℕ) (new : Unread) → IsBytes old.bytes → number_at w old ≡ Ok (n, new) → Taken old (to_le_bytes w n) new × (n < limit)
 unfolding number_at
 number_takes w limit wide old n new fits e =
-    let g = guard_ok (ltb (length old.bytes) (byte_len w)) (Short old.place) (from_le_bytes w (take (byte_len w) old.bytes), past (byte_len w) old) (n, new) e in
+    let g = guard_ok (ltb (length old.bytes) (byte_len w)) (Short (told old.place)) (from_le_bytes w (take (byte_len w) old.bytes), past (byte_len w) old) (n, new) e in
     let long : byte_len w ≤ length old.bytes = ltb-false _ _ g.0 in
     let n-is : from_le_bytes w (take (byte_len w) old.bytes) ≡ n = ap (λ (p : ℕ × Unread). p.0) g.1 in
     let new-is : past (byte_len w) old ≡ new = ap (λ (p : ℕ × Unread). p.1) g.1 in
@@ -196,7 +196,7 @@ text_takes : (place size : ℕ) (old : Unread) (text : List ℕ) (new : Unread) 
 unfolding text_at
 text_takes place size old text new e =
     let whole = size + padding size in
-    let g = guard_ok (ltb (length old.bytes) whole) (Short place) (take size old.bytes, past whole old) (text, new) e in
+    let g = guard_ok (ltb (length old.bytes) whole) (Short (told place)) (take size old.bytes, past whole old) (text, new) e in
     let long : whole ≤ length old.bytes = ltb-false _ _ g.0 in
     let text-is : take size old.bytes ≡ text = ap (λ (p : List ℕ × Unread). p.0) g.1 in
     let new-is : past whole old ≡ new = ap (λ (p : List ℕ × Unread). p.1) g.1 in

@@ -85,6 +85,13 @@ body_only body payload lt is =
     let same : eqb (length body) (length body) ≡ true = grind (arith, nat_tests) in
     rw (long, said, inner, same, is.0, behind) refl
 
+pub body_found_by : (payload : List ℕ) (result : Result Unread PickleFault) → IsBytes payload → result ≡ body_at payload → IfOk result (λ body. (body.place ≡ 4) × IsPickle body.bytes payload)
+body_found_by payload (Ok body) fits e = let found = body_found payload body fits (sym e) in (found.1, found.0)
+body_found_by payload (Err fault) fits e = tt
+
+pub body_only_by : (body payload : List ℕ) → length payload ≤ 65534 → IsPickle body payload → body_at payload ≡ Ok (record { place = 4; bytes = body })
+body_only_by body payload short is = body_only body payload (omega (arith, ap length is.1, length-uint32 (length body), length-append (uint32 (length body)) body)) is
+
 IsBytes-body : (body payload : List ℕ) → IsPickle body payload → IsBytes payload → IsBytes body
 IsBytes-body body payload is fits = subst IsBytes (ap (drop 4) is.1 ∙ drop_at (uint32 (length body)) body 4 (length-uint32 (length body))) (IsBytes-drop 4 payload fits)
 

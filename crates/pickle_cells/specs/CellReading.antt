@@ -1,6 +1,6 @@
 -- Reading the items of a pickle from left to right: the value and what is left, or why the next item doesn't
 -- read. An item is named by the offset in the pickle of its first byte.
-use Rattle.std.specs.Prelude.{◌≡◌, ℕ, ◌+◌, ◌-◌, ◌*◌, ◌%◌, ℤ, pos, negsuc, Bool, not, ◌&&◌, ◌==◌, List, [], ◌∷◌, length, take, drop, Result, Ok, Err, nat_lt, if◌then◌else◌}
+use Rattle.std.specs.Prelude.{◌≡◌, ℕ, ◌+◌, ◌-◌, ◌*◌, ◌%◌, ℤ, pos, negsuc, Bool, not, ◌&&◌, ◌==◌, List, [], ◌∷◌, length, take, drop, min, Result, Ok, Err, nat_lt, if◌then◌else◌}
 use Rattle.std.specs.Int.{Width, w32, w64, byte_len, from_le_bytes, cast_signed}
 use Rattle.pickle_cells.specs.declared.fault.PickleFault.{PickleFault}
 use Rattle.pickle_cells.specs.declared.fault.PickleFault.TheVariants.{Short, SizeField, NegativeLength}
@@ -21,6 +21,10 @@ abbrev pub Gives : {X Y : Type 0} → (X → Y) → Unread → Result X PickleFa
 Gives view old (Ok x) new read = read ≡ Ok (view x, new)
 Gives view old (Err fault) new read = (read ≡ Err fault) × (new ≡ old)
 
+-- an offset as a fault tells it: it stops at 2 ^ 32 - 1, which no pickle reaches
+abbrev pub told : ℕ → ℕ
+told place = min place 4294967295
+
 -- what is left behind n bytes
 unfoldable pub past : ℕ → Unread → Unread
 past n unread = record { place = unread.place + n; bytes = drop n unread.bytes }
@@ -28,7 +32,7 @@ past n unread = record { place = unread.place + n; bytes = drop n unread.bytes }
 -- an unsigned number
 unfoldable pub number_at : Width → Unread → Result (ℕ × Unread) PickleFault
 number_at w unread =
-    if nat_lt (length unread.bytes) (byte_len w) then Err (Short unread.place) else Ok (from_le_bytes w (take (byte_len w) unread.bytes), past (byte_len w) unread)
+    if nat_lt (length unread.bytes) (byte_len w) then Err (Short (told unread.place)) else Ok (from_le_bytes w (take (byte_len w) unread.bytes), past (byte_len w) unread)
 
 abbrev pub uint32_at : Unread → Result (ℕ × Unread) PickleFault
 uint32_at unread = number_at w32 unread
@@ -53,12 +57,12 @@ flag_at unread = uint32_at unread >>= λ n. Ok (not (n.0 == 0), n.1)
 -- so many bytes of text and their padding, in the item that begins at a place
 unfoldable pub text_at : ℕ → ℕ → Unread → Result (List ℕ × Unread) PickleFault
 text_at place size unread =
-    if nat_lt (length unread.bytes) (size + padding size) then Err (Short place) else Ok (take size unread.bytes, past (size + padding size) unread)
+    if nat_lt (length unread.bytes) (size + padding size) then Err (Short (told place)) else Ok (take size unread.bytes, past (size + padding size) unread)
 
 -- what follows a count of characters of width bytes each, in the item that begins at a place
 abbrev pub characters_at : ℕ → ℕ → ℤ × Unread → Result (List ℕ × Unread) PickleFault
 characters_at width place (pos count, unread) = text_at place (width * count) unread
-characters_at width place (negsuc below, unread) = Err (NegativeLength place (negsuc below))
+characters_at width place (negsuc below, unread) = Err (NegativeLength (told place) (negsuc below))
 
 -- the bytes of a count of characters of width bytes each
 unfoldable pub counted_at : ℕ → Unread → Result (List ℕ × Unread) PickleFault

@@ -1,55 +1,53 @@
 //! Reading the items of a pickle, one after another, without a copy.
 ghost use Rattle.std.specs.Prelude.{◌≡◌, ℕ, ◌+◌, ◌*◌, ◌%◌, ◌<◌, ◌≤◌, ◌^◌, ℤ, Bool, List, length, take, drop, Ok, Err, MatchResult, IfOk, IsOkAnd};
 ghost use Rattle.std.specs.Int.{w32, w64, from_le_bytes};
-ghost use Rattle.pickle_cells.specs.Cell.{padding, unit_bytes, IsBytes};
+ghost use Rattle.pickle_cells.specs.Cell.{padding, unit_bytes, IsBytes, IsPickle};
 ghost use Rattle.pickle_cells.specs.PickleLayout.{Int, Int64, Uint32, Uint64, Flag, Text, Units, Takes};
-ghost use Rattle.pickle_cells.specs.CellReading.{Unread, Gives, units_of, uint32_at, uint64_at, int_at, int64_at, flag_at, string_at, string16_at, counted_at, body_at};
+ghost use Rattle.pickle_cells.specs.CellReading.{Unread, Gives, told, units_of, uint32_at, uint64_at, int_at, int64_at, flag_at, string_at, string16_at, counted_at, body_at};
 ghost use Rattle.pickle_cells.specs.declared.fault.PickleFault.TheVariants.{Short};
 
 use crate::fault::PickleFault;
 use std::marker::Model;
 
-/// What is left to read of a pickle of at most 65,534 bytes: a borrowed slice and its offset in the pickle. A
-/// call takes no memory, reads the bytes of its item alone, and leaves the cursor as it was where it refuses.
+/// What is left to read of a pickle: a borrowed slice and its offset in the pickle. A call takes no memory, reads
+/// the bytes of its item alone, and leaves the cursor as it was where it refuses.
 #[derive(Drop)]
 pub struct Cursor<'a> {
-    place: u32,
+    place: u64,
     unread: &'a [u8],
 }
 
 impl<'a> Model for Cursor<'a> {
-    ghost use Rattle.std.specs.Prelude.{◌+◌, ◌≤◌, length};
+    ghost use Rattle.std.specs.Prelude.{◌+◌, ◌<◌, ◌^◌, length};
     ghost use Rattle.pickle_cells.specs.CellReading.{Unread};
 
     ghost Value = { Unread };
 
     ghost view = { λ c. record { place = c.place; bytes = c.unread.now } };
 
-    ghost invariant = { λ c. c.place + length c.unread.now ≤ 65534 };
+    ghost invariant = { λ c. c.place + length c.unread.now < 2 ^ 63 };
 }
 
 impl<'a> Cursor<'a> {
     /// A cursor before the first item of a pickle. `Short` at 0 where the size field isn't there, `SizeField`
     /// where it isn't the number of bytes behind it or isn't a multiple of 4.
-    #[tactic(auto, unfolding(crate::specs::CellReading::body_at))]
     pub fn new(pickle: &'a [u8]) -> Result<Cursor<'a>, PickleFault>
         requires { length pickle.now ≤ 65534 }
-        ensures exact { body_at pickle.now ≡ result }
+        ensures found { IfOk result (λ c. (c.place ≡ 4) × IsPickle c.bytes pickle.now) }
+        ensures only { (body : List ℕ) → IsPickle body pickle.now → result ≡ Ok (record { place = 4; bytes = body }) }
+        ensures exact { result ≡ body_at pickle.now }
     {
-        let present = pickle.len();
-        if present < 4 {
-            return Err(PickleFault::Short { at: 0 });
+        opened(pickle)
+    }
+
+    /// A cursor over items that stand without a size field, as those in a tail. Offsets count from the first byte.
+    pub fn of_items(items: &'a [u8]) -> Cursor<'a>
+        ensures { result ≡ record { place = 0; bytes = items.now } }
+    {
+        Cursor {
+            place: 0,
+            unread: items,
         }
-        let (front, body) = pickle.split_at(4);
-        let said = u32::from_le_bytes([front[0], front[1], front[2], front[3]]);
-        let present = (present - 4) as u32;
-        if said != present || said % 4 != 0 {
-            return Err(PickleFault::SizeField { said, present });
-        }
-        Ok(Cursor {
-            place: 4,
-            unread: body,
-        })
     }
 
     /// The next number of 4 bytes. `Short` where fewer are left.
@@ -183,12 +181,12 @@ impl<'a> Cursor<'a> {
         let count = number.cast_signed();
         if count < 0 {
             return Err(PickleFault::NegativeLength {
-                at: self.place,
+                at: told_place(self.place),
                 length: count,
             });
         }
         let (text, rest) = text_in(self.place, width * count as usize, rest)?;
-        self.place += (self.unread.len() - rest.len()) as u32;
+        self.place += (self.unread.len() - rest.len()) as u64;
         self.unread = rest;
         Ok(text)
     }
@@ -199,22 +197,53 @@ fn known(bytes: &[u8])
     ensures { IsBytes bytes.now }
 {}
 
-fn uint32_in(place: u32, bytes: &[u8]) -> Result<(u32, &[u8]), PickleFault>
-    ensures { MatchResult result (λ x. (4 ≤ length bytes.now) × (x.0 ≡ from_le_bytes w32 (take 4 bytes.now)) × (x.1.now ≡ drop 4 bytes.now)) (λ fault. (length bytes.now < 4) × (fault ≡ Short place)) }
+#[tactic(auto, unfolding(crate::specs::CellReading::body_at))]
+fn opened(pickle: &[u8]) -> Result<Cursor<'_>, PickleFault>
+    requires { length pickle.now ≤ 65534 }
+    ensures { result ≡ body_at pickle.now }
+{
+    let present = pickle.len();
+    if present < 4 {
+        return Err(PickleFault::Short { at: 0 });
+    }
+    let (front, body) = pickle.split_at(4);
+    let said = u32::from_le_bytes([front[0], front[1], front[2], front[3]]);
+    let present = (present - 4) as u32;
+    if said != present || said % 4 != 0 {
+        return Err(PickleFault::SizeField { said, present });
+    }
+    Ok(Cursor {
+        place: 4,
+        unread: body,
+    })
+}
+
+fn told_place(place: u64) -> u32
+    ensures { result ≡ told place }
+{
+    place.min(u32::MAX as u64) as u32
+}
+
+fn uint32_in(place: u64, bytes: &[u8]) -> Result<(u32, &[u8]), PickleFault>
+    ensures { MatchResult result (λ x. (4 ≤ length bytes.now) × (x.0 ≡ from_le_bytes w32 (take 4 bytes.now)) × (x.1.now ≡ drop 4 bytes.now)) (λ fault. (length bytes.now < 4) × (fault ≡ Short (told place))) }
 {
     if bytes.len() < 4 {
-        return Err(PickleFault::Short { at: place });
+        return Err(PickleFault::Short {
+            at: told_place(place),
+        });
     }
     let (front, rest) = bytes.split_at(4);
     let number = u32::from_le_bytes([front[0], front[1], front[2], front[3]]);
     Ok((number, rest))
 }
 
-fn uint64_in(place: u32, bytes: &[u8]) -> Result<(u64, &[u8]), PickleFault>
-    ensures { MatchResult result (λ x. (8 ≤ length bytes.now) × (x.0 ≡ from_le_bytes w64 (take 8 bytes.now)) × (x.1.now ≡ drop 8 bytes.now)) (λ fault. (length bytes.now < 8) × (fault ≡ Short place)) }
+fn uint64_in(place: u64, bytes: &[u8]) -> Result<(u64, &[u8]), PickleFault>
+    ensures { MatchResult result (λ x. (8 ≤ length bytes.now) × (x.0 ≡ from_le_bytes w64 (take 8 bytes.now)) × (x.1.now ≡ drop 8 bytes.now)) (λ fault. (length bytes.now < 8) × (fault ≡ Short (told place))) }
 {
     if bytes.len() < 8 {
-        return Err(PickleFault::Short { at: place });
+        return Err(PickleFault::Short {
+            at: told_place(place),
+        });
     }
     let (front, rest) = bytes.split_at(8);
     let number = u64::from_le_bytes([
@@ -224,13 +253,15 @@ fn uint64_in(place: u32, bytes: &[u8]) -> Result<(u64, &[u8]), PickleFault>
 }
 
 #[tactic(auto, unfolding(crate::specs::Cell::padding))]
-fn text_in(place: u32, size: usize, bytes: &[u8]) -> Result<(&[u8], &[u8]), PickleFault>
+fn text_in(place: u64, size: usize, bytes: &[u8]) -> Result<(&[u8], &[u8]), PickleFault>
     requires { size < 2 ^ 33 }
-    ensures { MatchResult result (λ x. (size + padding size ≤ length bytes.now) × (x.0.now ≡ take size bytes.now) × (x.1.now ≡ drop (size + padding size) bytes.now)) (λ fault. (length bytes.now < size + padding size) × (fault ≡ Short place)) }
+    ensures { MatchResult result (λ x. (size + padding size ≤ length bytes.now) × (x.0.now ≡ take size bytes.now) × (x.1.now ≡ drop (size + padding size) bytes.now)) (λ fault. (length bytes.now < size + padding size) × (fault ≡ Short (told place))) }
 {
     let padded = size + (4 - size % 4) % 4;
     if bytes.len() < padded {
-        return Err(PickleFault::Short { at: place });
+        return Err(PickleFault::Short {
+            at: told_place(place),
+        });
     }
     let (front, rest) = bytes.split_at(padded);
     Ok((&front[..size], rest))
