@@ -104,6 +104,11 @@ items_at (kind ∷ kinds) unread = item_at kind unread >>= λ first. items_at ki
 unfoldable pub pickled_at : List ItemKind → List ℕ → Result (List Item × List ℕ) PickleFault
 pickled_at kinds payload = body_at payload >>= λ body. items_at kinds body >>= λ x. Ok (x.0, x.1.bytes)
 
+-- What a call that reads a payload gives, seen by view, is what reading gives.
+abbrev pub IsReadAs : {X : Type 0} → (X → List Item × List ℕ) → Result X PickleFault → Result (List Item × List ℕ) PickleFault → Type 0
+IsReadAs view (Ok x) read = read ≡ Ok (view x)
+IsReadAs view (Err fault) read = read ≡ Err fault
+
 abbrev pub fault_of : {X : Type 0} → Result X PickleFault → Option PickleFault
 fault_of (Ok x) = None
 fault_of (Err fault) = Some fault

@@ -1,5 +1,5 @@
 //! A byte string of its own, seen by every contract as the list of its bytes.
-ghost use Rattle.std.specs.Prelude.{◌≡◌, IfOk, nat_eq, refl, Some};
+ghost use Rattle.std.specs.Prelude.{◌≡◌, [], IfOk, nat_eq, refl, Some};
 ghost use Rattle.std.specs.Ordering.{nat_cmp};
 ghost use Rattle.std.specs.Hash as fed;
 ghost use Rattle.std.specs.Cmp.Lexicographic.{pointwise, slice_cmp, nat_list_eq_equiv, nat_list_cmp_total, texts_ties, texts_po};
@@ -41,6 +41,15 @@ impl Blob {
         ensures { result.now ≡ self.now }
     {
         self.bytes.as_slice()
+    }
+
+    /// The empty byte string in place of this one. It takes no memory, and gives this one's back.
+    pub fn emptied(self) -> Blob
+        ensures { result ≡ [] }
+    {
+        let Blob { bytes } = self;
+        let bytes = Vec::new(*bytes.allocator());
+        Blob { bytes }
     }
 
     /// The same bytes in an allocation of their own.

@@ -1,5 +1,5 @@
 //! A text of 16-bit units of its own, seen by every contract as the list of its units.
-ghost use Rattle.std.specs.Prelude.{◌≡◌, ◌%◌, length, IfOk, nat_eq, refl, Some};
+ghost use Rattle.std.specs.Prelude.{◌≡◌, [], ◌%◌, length, IfOk, nat_eq, refl, Some};
 ghost use Rattle.std.specs.Ordering.{nat_cmp};
 ghost use Rattle.std.specs.Hash as fed;
 ghost use Rattle.std.specs.List.{flat_map};
@@ -38,7 +38,8 @@ impl Text16 {
     /// The units that stand in these bytes, two bytes a unit, little-endian.
     pub fn from_pairs(alloc: Global, bytes: &[u8]) -> Result<Text16, AllocError>
         requires { length bytes.now % 2 ≡ 0 }
-        ensures { IfOk result (λ t. t ≡ units_of bytes.now) }
+        ensures units { IfOk result (λ t. t ≡ units_of bytes.now) }
+        ensures pairs { IfOk result (λ t. unit_bytes t ≡ bytes.now) }
     {
         let units = paired(alloc, bytes)?;
         Ok(Text16 { units })
@@ -58,6 +59,15 @@ impl Text16 {
         self.units.as_slice()
     }
 
+    /// The empty text in place of this one. It takes no memory, and gives this one's back.
+    pub fn emptied(self) -> Text16
+        ensures { result ≡ [] }
+    {
+        let Text16 { units } = self;
+        let units = Vec::new(*units.allocator());
+        Text16 { units }
+    }
+
     /// The same units in an allocation of their own.
     pub fn copy(&self) -> Result<Text16, AllocError>
         ensures { IfOk result (λ t. t ≡ self.now) }
@@ -68,7 +78,9 @@ impl Text16 {
 }
 
 fn paired(alloc: Global, bytes: &[u8]) -> Result<Vec<u16>, AllocError>
-    ensures { IfOk result (λ v. v.items ≡ units_of bytes.now) }
+    requires { length bytes.now % 2 ≡ 0 }
+    ensures units { IfOk result (λ v. v.items ≡ units_of bytes.now) }
+    ensures pairs { IfOk result (λ v. unit_bytes v.items ≡ bytes.now) }
 {
     let mut units = Vec::with_capacity(alloc, bytes.len() / 2)?;
     for i in 0..bytes.len() / 2 {
