@@ -192,6 +192,10 @@ pub padded : (n : ℕ) → (n + padding n) % 4 ≡ 0
 unfolding padding
 padded n = omega arith
 
+pub padding_small : (n : ℕ) → padding n ≤ 3
+unfolding padding
+padding_small n = omega arith
+
 text_takes : (place size : ℕ) (old : Unread) (text : List ℕ) (new : Unread) → text_at place size old ≡ Ok (text, new) → (free : List ℕ) × (length text ≡ size) × (length free ≡ padding size) × Taken old (text ++ free) new
 unfolding text_at
 text_takes place size old text new e =

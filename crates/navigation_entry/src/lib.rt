@@ -1,0 +1,9 @@
+//! Navigations, groups of tabs and bounds of windows, which both families of commands share, as the payloads in
+//! which they stand. Rests on the items of pickles.
+#![tactic(auto)]
+
+mod bounds;
+mod navigation;
+
+pub use bounds::Bounds;
+pub use navigation::Navigation;
