@@ -4,6 +4,9 @@
 
 mod bounds;
 mod navigation;
+mod reading;
+mod reference;
 
 pub use bounds::Bounds;
 pub use navigation::Navigation;
+pub use reference::NavigationRef;

@@ -8,7 +8,7 @@ use Rattle.pickle_cells.specs.declared.fault.PickleFault.{PickleFault}
 use Rattle.pickle_cells.specs.declared.fault.PickleFault.TheVariants.{Short, SizeField}
 use Rattle.pickle_cells.specs.Cell.{IsBytes, int, int64, uint32, uint64, flag, counted, string, string16, unit_bytes, padding, IsFlag, IsCounted, IsString, IsString16, IsPickle, pickle}
 use Rattle.pickle_cells.specs.CellReading.{Unread, Gives, ◌>>=◌, int_at, int64_at, uint32_at, uint64_at, flag_at, string_at, string16_at, units_of, body_at}
-use Rattle.pickle_cells.specs.PickleLayout.{Item, Int, Int64, Uint32, Uint64, Flag, Text, Units, IsItem, AreItems, IsPickled, FitsItem, item_bytes, items_bytes, pickled_bytes, ItemKind, IntKind, Int64Kind, Uint32Kind, Uint64Kind, FlagKind, TextKind, UnitsKind, kind_of, item_at, items_at, pickled_at, Takes}
+use Rattle.pickle_cells.specs.PickleLayout.{Item, Int, Int64, Uint32, Uint64, Flag, Text, Units, IsItem, AreItems, IsPickled, FitsItem, item_size, item_bytes, items_bytes, pickled_bytes, ItemKind, IntKind, Int64Kind, Uint32Kind, Uint64Kind, FlagKind, TextKind, UnitsKind, kind_of, item_at, items_at, pickled_at, Takes}
 use Rattle.pickle_cells.proofs.UnitLaws.{length-unit_bytes, length-units_of, unit_bytes-units_of, units_of-fits, units_of-unit_bytes}
 use Rattle.pickle_cells.proofs.CellLaws.{IsBytes-take, IsBytes-drop, padded, bind_ok, ok_is, Taken, Taken-fits, Taken-then, int_takes, int_again, int64_takes, int64_again, uint32_takes, uint32_again, uint64_takes, uint64_again, flag_takes, flag_again, counted_takes, counted_again}
 
@@ -158,16 +158,26 @@ item_bytes-is (Flag true) fits = (1, omega arith, refl, refl)
 item_bytes-is (Text text) fits = (replicate (padding (length text)) 0, fits, length-replicate {A = ℕ} (padding (length text)) 0, refl)
 item_bytes-is (Units units) fits = (fits.0, (replicate (padding (length (unit_bytes units))) 0, fits.1, length-replicate {A = ℕ} (padding (length (unit_bytes units))) 0, refl))
 
-length-IsCounted : (count : ℕ) (text cell : List ℕ) → IsCounted count text cell → length cell % 4 ≡ 0
+length-IsCounted : (count : ℕ) (text cell : List ℕ) → IsCounted count text cell → length cell ≡ 4 + length text + padding (length text)
 length-IsCounted count text cell is =
-    omega (arith, ap length is.3, length-int (pos count), length-append (int (pos count)) (text ++ is.0), length-append text is.0, is.2, padded (length text))
+    omega (arith, ap length is.3, length-int (pos count), length-append (int (pos count)) (text ++ is.0), length-append text is.0, is.2)
+
+-- the length of a cell
+pub length-cell : (item : Item) (cell : List ℕ) → IsItem item cell → length cell ≡ item_size item
+length-cell (Int z) cell is = ap length is.1 ∙ length-int z
+length-cell (Int64 z) cell is = ap length is.1 ∙ length-int64 z
+length-cell (Uint32 n) cell is = ap length is.1 ∙ length-uint32 n
+length-cell (Uint64 n) cell is = ap length is.1 ∙ length-uint64 n
+length-cell (Flag b) cell is = ap length is.2 ∙ length-uint32 is.0
+length-cell (Text text) cell is = length-IsCounted (length text) text cell is
+length-cell (Units units) cell is = length-IsCounted (length units) (unit_bytes units) cell is.1 ∙ ap (λ (n : ℕ). 4 + n + padding n) (length-unit_bytes units)
 
 -- a cell has a multiple of 4 bytes
-pub length-cell : (item : Item) (cell : List ℕ) → IsItem item cell → length cell % 4 ≡ 0
-length-cell (Int z) cell is = omega (arith, ap length is.1, length-int z)
-length-cell (Int64 z) cell is = omega (arith, ap length is.1, length-int64 z)
-length-cell (Uint32 n) cell is = omega (arith, ap length is.1, length-uint32 n)
-length-cell (Uint64 n) cell is = omega (arith, ap length is.1, length-uint64 n)
-length-cell (Flag b) cell is = omega (arith, ap length is.2, length-uint32 is.0)
-length-cell (Text text) cell is = length-IsCounted (length text) text cell is
-length-cell (Units units) cell is = length-IsCounted (length units) (unit_bytes units) cell is.1
+pub item_size-whole : (item : Item) → item_size item % 4 ≡ 0
+item_size-whole (Int z) = refl
+item_size-whole (Int64 z) = refl
+item_size-whole (Uint32 n) = refl
+item_size-whole (Uint64 n) = refl
+item_size-whole (Flag b) = refl
+item_size-whole (Text text) = omega (arith, padded (length text))
+item_size-whole (Units units) = omega (arith, padded (2 * length units))

@@ -9,8 +9,8 @@ use Rattle.pickle_cells.specs.declared.fault.PickleFault.{PickleFault}
 use Rattle.pickle_cells.specs.declared.fault.PickleFault.TheVariants.{Short, SizeField}
 use Rattle.pickle_cells.specs.Cell.{IsBytes, int, int64, uint32, uint64, flag, counted, string, string16, unit_bytes, padding, IsFlag, IsCounted, IsString, IsString16, IsPickle, pickle}
 use Rattle.pickle_cells.specs.CellReading.{Unread, Gives, ◌>>=◌, int_at, int64_at, uint32_at, uint64_at, flag_at, string_at, string16_at, units_of, body_at}
-use Rattle.pickle_cells.specs.PickleLayout.{Item, Int, Int64, Uint32, Uint64, Flag, Text, Units, IsItem, AreItems, IsPickled, FitsItem, item_bytes, items_bytes, pickled_bytes, ItemKind, IntKind, Int64Kind, Uint32Kind, Uint64Kind, FlagKind, TextKind, UnitsKind, kind_of, item_at, items_at, pickled_at, Takes}
-use Rattle.pickle_cells.proofs.ItemLaws.{length-uint32, length-pickle, item_found, item_only, item_bytes-is, length-cell}
+use Rattle.pickle_cells.specs.PickleLayout.{Item, Int, Int64, Uint32, Uint64, Flag, Text, Units, IsItem, AreItems, IsPickled, FitsItem, items_size, pickled_size, item_bytes, items_bytes, pickled_bytes, ItemKind, IntKind, Int64Kind, Uint32Kind, Uint64Kind, FlagKind, TextKind, UnitsKind, kind_of, item_at, items_at, pickled_at, Takes}
+use Rattle.pickle_cells.proofs.ItemLaws.{length-uint32, length-pickle, item_found, item_only, item_bytes-is, length-cell, item_size-whole}
 use Rattle.std.proofs.lemmas.Bool.{eqb-true, ltb-false, le-ltb}
 use Rattle.std.proofs.lemmas.Bool.Decides.{nat_tests}
 use Rattle.pickle_cells.proofs.CellLaws.{wide32}
@@ -121,7 +121,17 @@ pickled_only items tail payload lt is =
 pub length-tail : (items : List Item) (tail bytes : List ℕ) → AreItems items tail bytes → length bytes % 4 ≡ 0 → length tail % 4 ≡ 0
 length-tail [] tail bytes are whole = omega (arith, ap length are)
 length-tail (item ∷ items) tail bytes are whole =
-    length-tail items tail are.1 are.4 (omega (arith, ap length are.2, length-append are.0 are.1, length-cell item are.0 are.3))
+    length-tail items tail are.1 are.4 (omega (arith, ap length are.2, length-append are.0 are.1, length-cell item are.0 are.3, item_size-whole item))
+
+length-items : (items : List Item) (tail bytes : List ℕ) → AreItems items tail bytes → length bytes ≡ items_size items tail
+length-items [] tail bytes are = ap length are
+length-items (item ∷ items) tail bytes are =
+    omega (arith, ap length are.2, length-append are.0 are.1, length-cell item are.0 are.3, length-items items tail are.1 are.4)
+
+-- the length of a payload, and that its tail is a multiple of 4 bytes
+pub length-pickled : (items : List Item) (tail payload : List ℕ) → IsPickled items tail payload → (length payload ≡ pickled_size items tail) × (length tail % 4 ≡ 0)
+length-pickled items tail payload is =
+    (omega (arith, ap length is.1.1, length-uint32 (length is.0), length-append (uint32 (length is.0)) is.0, length-items items tail is.0 is.2), length-tail items tail is.0 is.2 is.1.0)
 
 -- what is written stands there
 pub items_bytes-are : (items : List Item) (tail : List ℕ) → AllByRecursion FitsItem items → AreItems items tail (items_bytes items tail)
@@ -133,7 +143,7 @@ pub length-items_bytes : (items : List Item) (tail : List ℕ) → AllByRecursio
 unfolding items_bytes
 length-items_bytes [] tail fit whole = whole
 length-items_bytes (item ∷ items) tail fit whole =
-    omega (arith, length-append (item_bytes item) (items_bytes items tail), length-cell item (item_bytes item) (item_bytes-is item fit.0), length-items_bytes items tail fit.1 whole)
+    omega (arith, length-append (item_bytes item) (items_bytes items tail), length-cell item (item_bytes item) (item_bytes-is item fit.0), item_size-whole item, length-items_bytes items tail fit.1 whole)
 
 -- What is written for a payload is one of its spellings, and so it is read back.
 pub pickled_bytes-is : (items : List Item) (tail : List ℕ) → AllByRecursion FitsItem items → length tail % 4 ≡ 0 → IsPickled items tail (pickled_bytes items tail)

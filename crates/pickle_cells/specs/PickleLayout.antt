@@ -1,10 +1,10 @@
 -- Payloads that are a pickle: items one after another, then a tail, whose length is a multiple of 4. A row of a
 -- table of commands says its items and its tail; the bytes, the written bytes and the faults follow from them.
-use Rattle.std.specs.Prelude.{◌≡◌, ℕ, ◌+◌, ◌<◌, ◌^◌, ℤ, Bool, List, [], ◌∷◌, ◌++◌, length, Result, Ok, Err, Option, Some, None, FitsSigned}
+use Rattle.std.specs.Prelude.{◌≡◌, ℕ, ◌+◌, ◌*◌, ◌<◌, ◌^◌, ℤ, Bool, List, [], ◌∷◌, ◌++◌, length, Result, Ok, Err, Option, Some, None, FitsSigned}
 use Rattle.std.specs.List.{AllByRecursion}
 use Rattle.std.specs.Int.{w32, w64}
 use Rattle.pickle_cells.specs.declared.fault.PickleFault.{PickleFault}
-use Rattle.pickle_cells.specs.Cell.{int, int64, uint32, uint64, flag, string, string16, IsFlag, IsString, IsString16, IsPickle, pickle}
+use Rattle.pickle_cells.specs.Cell.{int, int64, uint32, uint64, flag, string, string16, padding, IsFlag, IsString, IsString16, IsPickle, pickle}
 use Rattle.pickle_cells.specs.CellReading.{Unread, ◌>>=◌, int_at, int64_at, uint32_at, uint64_at, flag_at, string_at, string16_at, units_of, body_at}
 
 -- an item: a number, a truth value, the bytes of a string, the units of a string of 16-bit units
@@ -55,6 +55,24 @@ items_bytes (item ∷ items) tail = item_bytes item ++ items_bytes items tail
 -- the payload that is written
 unfoldable pub pickled_bytes : List Item → List ℕ → List ℕ
 pickled_bytes items tail = pickle (items_bytes items tail)
+
+-- how long the cells of an item are
+abbrev pub item_size : Item → ℕ
+item_size (Int z) = 4
+item_size (Int64 z) = 8
+item_size (Uint32 n) = 4
+item_size (Uint64 n) = 8
+item_size (Flag b) = 4
+item_size (Text text) = 4 + length text + padding (length text)
+item_size (Units units) = 4 + 2 * length units + padding (2 * length units)
+
+-- how long the payloads of these items and this tail are
+abbrev pub items_size : List Item → List ℕ → ℕ
+items_size [] tail = length tail
+items_size (item ∷ items) tail = item_size item + items_size items tail
+
+abbrev pub pickled_size : List Item → List ℕ → ℕ
+pickled_size items tail = 4 + items_size items tail
 
 -- what has a cell
 abbrev pub FitsItem : Item → Type 0
