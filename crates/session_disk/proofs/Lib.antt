@@ -1,3 +1,5 @@
 pub mod Leaves
+pub mod Resting
 mod DiskFiles
 mod ChangeLog
+mod Prefixes

@@ -1,6 +1,7 @@
 pub mod Causes
 pub mod Streams
 pub mod MemoryStreams
+pub mod Names
 pub mod Moments
 pub mod Images
 pub mod Histories

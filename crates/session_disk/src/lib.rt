@@ -1,5 +1,5 @@
 //! The outside as traits: where input comes from, where output goes, the clock, and the disk that holds the
-//! session files of one family; with implementations in memory and over real files. Stands on pickle_cells.
+//! session files of one family; with implementations in memory and over real files. Stands on decimals.
 #![tactic(auto)]
 
 mod change_log;
@@ -7,15 +7,23 @@ mod clock;
 mod disk;
 mod disk_file;
 mod failure;
+mod family;
+mod folder;
+mod folder_disk;
 mod memory_disk;
 mod memory_stream;
 mod recording;
+mod std_stream;
 mod stream;
 
 pub use clock::{Clock, FixedClock, StdClock};
 pub use disk::SessionDisk;
 pub use disk_file::{DiskFile, FileBytes};
 pub use failure::{DiskError, Failed};
+pub use family::{Family, file_name, stamp_of};
+pub use folder_disk::FolderDisk;
 pub use memory_disk::MemoryDisk;
 pub use memory_stream::{MemorySink, MemorySource};
+pub use std_stream::{StdSink, StdSource};
 pub use stream::{Sink, Source};
+

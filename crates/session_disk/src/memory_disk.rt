@@ -27,6 +27,7 @@ impl MemoryDisk {
     /// No files; nothing was told and nothing failed.
     pub fn empty(alloc: Global) -> Result<MemoryDisk, AllocError>
         ensures history { IfOk result (λ disk. history_of disk ≡ record { now = empty_moment; past = [] }) }
+        ensures at_rest { IfOk result (λ disk. IsAtRest (history_of disk).now) }
         ensures failures { IfOk result (λ disk. failures_of disk ≡ 0) }
     {
         Ok(MemoryDisk {
@@ -44,6 +45,7 @@ impl MemoryDisk {
         requires absent { IsNone ((history_of self.old).now.standing stamp) }
         ensures ok { OnOk result
             (history_of self.new ≡ record { now = with_safe_file stamp bytes.now (history_of self.old).now; past = [] }) }
+        ensures at_rest { IsAtRest (history_of self.new).now }
         ensures err { OnErr result (history_of self.new ≡ history_of self.old) }
         ensures failures { failures_of self.new ≡ failures_of self.old }
     {
