@@ -27,3 +27,5 @@ pub use memory_stream::{MemorySink, MemorySource};
 pub use std_stream::{StdSink, StdSource};
 pub use stream::{Sink, Source};
 
+#[cfg(test)]
+mod tests;
