@@ -1,0 +1,10 @@
+pub mod LineLaws
+pub mod TabLineLaws
+pub mod TabLineReading
+pub mod FileLaws
+pub mod StreamLaws
+pub mod RecoveryLaws
+pub mod MomentLaws
+pub mod LayingLaws
+pub mod ToldLaws
+pub mod OutputLaws

@@ -1,0 +1,11 @@
+pub mod Words
+pub mod Lines
+pub mod TabLine
+pub mod Replay
+pub mod Recovery
+pub mod SessionFile
+pub mod Script
+pub mod Written
+pub mod Outcome
+pub mod Run
+pub mod Steps

@@ -1,0 +1,65 @@
+-- The answers of a run, and what it prints.
+use Rattle.std.specs.Prelude.{◌≡◌, ◌⊎◌, ℕ, ◌≤◌, List, [], ◌∷◌, ◌++◌, length, take, Option, None, Some, codes}
+use Rattle.std.specs.Fmt.{decimal}
+use Rattle.session_disk.specs.declared.family.Family.{Family}
+use Rattle.session_disk.specs.declared.family.Family.TheVariants.{Session, Tabs}
+use Rattle.session_drive.specs.declared.status.Status.{Status}
+use Rattle.session_drive.specs.declared.status.Status.TheVariants.{Done, Usage, Refused, NotEmpty, Disk, Read, Write, TooLong, Memory}
+use Rattle.session_drive.specs.declared.status.Why.TheVariants.{NotBuilt}
+use Rattle.session_drive.specs.declared.status.Long.TheVariants.{Script}
+use Rattle.session_drive.specs.TabLine.{issued, refused_line}
+
+-- the process's exit code
+abbrev pub code : Status → ℕ
+code (Done session tabs) = 0
+code Usage = 2
+code (Refused line why) = 3
+code (Disk family) = 4
+code Read = 5
+code Write = 6
+code (TooLong what needed) = 7
+code Memory = 8
+code (NotEmpty stamp) = 10
+
+abbrev pub family_name : Family → List ℕ
+family_name Session = codes "session"
+family_name Tabs = codes "tabs"
+
+-- the line of a fresh start: no window, no tab, no closed entry
+abbrev pub start_line : List ℕ
+start_line = codes "start 0 0 0\n"
+
+-- the last line; after a failed write there is none
+abbrev pub last_line : Status → List ℕ
+last_line (Done session tabs) = codes "done " ++ (decimal session ++ (codes " " ++ (decimal tabs ++ codes "\n")))
+last_line Usage = codes "usage\n"
+last_line (Refused line NotBuilt) = codes "refused " ++ (decimal line ++ codes " not-built\n")
+last_line (NotEmpty stamp) = codes "not-empty " ++ (decimal stamp ++ codes "\n")
+last_line (Disk family) = codes "fault disk " ++ (family_name family ++ codes "\n")
+last_line Read = codes "fault read\n"
+last_line Write = []
+last_line (TooLong Script needed) = codes "fault too-long script " ++ (decimal needed ++ codes "\n")
+last_line Memory = codes "fault memory\n"
+
+-- the answer to a script in which nothing fails
+abbrev pub answer_of : Option ℕ → ℕ → Status
+answer_of (Some line) commands = Refused line NotBuilt
+answer_of None commands = Done commands 0
+
+abbrev pub answer_to : List ℕ → Status
+answer_to text = answer_of (refused_line text) (length (issued text))
+
+-- some front of what is to be said
+abbrev pub IsFront : List ℕ → List ℕ → Type 0
+IsFront said all = (n : ℕ) × (n ≤ length all) × (said ≡ take n all)
+
+-- all of it, or where the sink failed some front of it
+abbrev pub IsSaid : Type 0 → List ℕ → List ℕ → Type 0
+IsSaid failed all said = (said ≡ all) ⊎ (failed × IsFront said all)
+
+-- the answer where the last line of this one couldn't be written
+abbrev pub unsaid : Status → Status
+unsaid (Done session tabs) = Write
+unsaid Usage = Write
+unsaid (Refused line why) = Write
+unsaid status = status

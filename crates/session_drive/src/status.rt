@@ -1,0 +1,98 @@
+//! The answers of a run, their exit codes and their lines.
+ghost use Rattle.std.specs.Prelude.{◌≡◌, IfOk, IsOk};
+ghost use Rattle.std.specs.String.{string_bytes};
+
+use session_disk::Family;
+use std::alloc::{AllocError, Global};
+
+/// Why a line of the script is refused.
+#[derive(Clone, Copy, Debug, PartialEq, Eq)]
+pub enum Why {
+    /// It is no verb that is built.
+    NotBuilt,
+}
+
+/// What is too long.
+#[derive(Clone, Copy, Debug, PartialEq, Eq)]
+pub enum Long {
+    Script,
+}
+
+/// The answer of a run.
+#[derive(Clone, Copy, Debug, PartialEq, Eq)]
+pub enum Status {
+    /// All commands are told: how many of each family.
+    Done { session: u64, tabs: u64 },
+    /// The words aren't in the grammar.
+    Usage,
+    /// The line with this number, counted from 1, is the first that is refused.
+    Refused { line: u64, why: Why },
+    /// A session file stands on the disk; this is the greatest stamp.
+    NotEmpty { stamp: u64 },
+    /// The disk of this family failed.
+    Disk(Family),
+    /// The source failed.
+    Read,
+    /// The sink failed.
+    Write,
+    /// More bytes than are allowed; `needed` is how many were seen.
+    TooLong { what: Long, needed: u64 },
+    /// Memory ran out.
+    Memory,
+}
+
+impl Status {
+    ghost use Rattle.session_drive.specs.Outcome.{code, last_line, unsaid};
+
+    /// The exit code.
+    pub fn code(self) -> u8
+        ensures { result ≡ code self }
+    {
+        match self {
+            Status::Done { .. } => 0,
+            Status::Usage => 2,
+            Status::Refused { .. } => 3,
+            Status::Disk(_) => 4,
+            Status::Read => 5,
+            Status::Write => 6,
+            Status::TooLong { .. } => 7,
+            Status::Memory => 8,
+            Status::NotEmpty { .. } => 10,
+        }
+    }
+
+    /// The answer where the last line of this one couldn't be written: a fault stays what it is.
+    pub fn unsaid(self) -> Status
+        ensures { result ≡ unsaid self }
+    {
+        match self {
+            Status::Done { .. } | Status::Usage | Status::Refused { .. } => Status::Write,
+            other => other,
+        }
+    }
+
+    /// The last line of a run with this answer, with its line feed; empty after a failed write.
+    pub fn last_line(self, alloc: Global) -> Result<String, AllocError>
+        ensures line { IfOk result (λ line. string_bytes line ≡ last_line self) }
+        ensures none { self ≡ Status.Write → IsOk result }
+    {
+        match self {
+            Status::Done { session, tabs } => format!(in alloc; "done {session} {tabs}\n"),
+            Status::Usage => String::from_str(alloc, "usage\n"),
+            Status::Refused {
+                line,
+                why: Why::NotBuilt,
+            } => format!(in alloc; "refused {line} not-built\n"),
+            Status::NotEmpty { stamp } => format!(in alloc; "not-empty {stamp}\n"),
+            Status::Disk(Family::Session) => String::from_str(alloc, "fault disk session\n"),
+            Status::Disk(Family::Tabs) => String::from_str(alloc, "fault disk tabs\n"),
+            Status::Read => String::from_str(alloc, "fault read\n"),
+            Status::Write => Ok(String::new(alloc)),
+            Status::TooLong {
+                what: Long::Script,
+                needed,
+            } => format!(in alloc; "fault too-long script {needed}\n"),
+            Status::Memory => String::from_str(alloc, "fault memory\n"),
+        }
+    }
+}

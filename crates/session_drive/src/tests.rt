@@ -1,0 +1,193 @@
+use super::*;
+use crate::status::Why;
+use session_disk::{FixedClock, MemoryDisk, MemorySink, MemorySource};
+use std::fs;
+use std::process::Abort;
+use std::test::Fail;
+
+/// Header, marker, and the frame of tab 2 in window 1.
+const FIRST_FILE: [u8; 22] = [
+    0x53, 0x4E, 0x53, 0x53, 3, 0, 0, 0, 1, 0, 255, 9, 0, 0, 1, 0, 0, 0, 2, 0, 0, 0,
+];
+
+#[derive(Drop)]
+struct Run {
+    status: Status,
+    said: Vec<u8>,
+    session: MemoryDisk,
+}
+
+fn list_of(rt: HostRuntime, words: &[&str]) -> Result<Vec<String>, AllocError> {
+    let mut list = Vec::new(rt.alloc());
+    for word in words {
+        list.push(word.to_string(rt.alloc())?)?;
+    }
+    Ok(list)
+}
+
+fn run_on(rt: HostRuntime, script: &[u8], session: MemoryDisk, reads: &[u64], writes: &[u64]) -> Result<Run, AllocError> {
+    let alloc = rt.alloc();
+    let words = list_of(rt, &["run", "--inline", "d"])?;
+    let mut source = MemorySource::new(alloc, script, reads)?;
+    let mut sink = MemorySink::new(alloc, writes)?;
+    let tabs = MemoryDisk::empty(alloc)?;
+    let (status, session, _tabs) = drive_inline(
+        alloc,
+        &words,
+        &mut source,
+        &mut sink,
+        session,
+        tabs,
+        &mut FixedClock::new(100),
+    );
+    let said = sink.written().to_vec(alloc)?;
+    Ok(Run { status, said, session })
+}
+
+#[test]
+fn a_tab_makes_a_synced_file_that_is_told(rt: HostRuntime) -> Result<(), Fail> {
+    let run = run_on(rt, b"tab 1 2\n", MemoryDisk::empty(rt.alloc())?, &[], &[])?;
+    assert_eq!(rt; run.status, Status::Done { session: 1, tabs: 0 });
+    assert_eq!(rt; run.said.as_slice(), b"start 0 0 0\ndone 1 0\n".as_slice());
+    let files = run.session.files();
+    assert_eq!(rt; files.len(), 1);
+    assert_eq!(rt; files[0].stamp, 100);
+    assert_eq!(rt; files[0].bytes.as_slice(), FIRST_FILE.as_slice());
+    assert_eq!(rt; files[0].synced, 22);
+    assert!(rt; files[0].settled);
+    Ok(())
+}
+
+#[test]
+fn an_empty_script_makes_a_file_without_commands(rt: HostRuntime) -> Result<(), Fail> {
+    let run = run_on(rt, b"", MemoryDisk::empty(rt.alloc())?, &[], &[])?;
+    assert_eq!(rt; run.status, Status::Done { session: 0, tabs: 0 });
+    assert_eq!(rt; run.session.files().len(), 1);
+    assert_eq!(rt; run.session.files()[0].bytes.as_slice(), &FIRST_FILE[..11]);
+    Ok(())
+}
+
+#[test]
+fn a_line_that_is_no_tab_makes_no_file(rt: HostRuntime) -> Result<(), Fail> {
+    for (script, line) in [
+        (b"tab 1 2\nfly 1\n".as_slice(), 2),
+        (b"\n", 1),
+        (b"# note\n", 1),
+        (b"tab 1 2\n\n", 2),
+        (b"tab 1 2 ", 1),
+        (b"tab  1 2", 1),
+        (b" tab 1 2", 1),
+        (b"tab 1 02", 1),
+        (b"tab 0 2", 1),
+        (b"tab 1 2147483648", 1),
+        (b"tab 1 2\r\n", 1),
+        (b"tab 1 \xFF", 1),
+    ] {
+        let run = run_on(rt, script, MemoryDisk::empty(rt.alloc())?, &[], &[])?;
+        let why = Why::NotBuilt;
+        assert_eq!(rt; run.status, Status::Refused { line, why });
+        let said = format!(in rt.alloc(); "start 0 0 0\nrefused {line} not-built\n")?;
+        assert_eq!(rt; run.said.as_slice(), said.as_bytes());
+        assert_eq!(rt; run.session.files().len(), 0);
+    }
+    Ok(())
+}
+
+#[test]
+fn a_disk_with_a_file_is_left_as_it_is(rt: HostRuntime) -> Result<(), Fail> {
+    let mut session = MemoryDisk::empty(rt.alloc())?;
+    session.add_file(7, b"old")?;
+    let run = run_on(rt, b"tab 1 2", session, &[], &[])?;
+    assert_eq!(rt; run.status, Status::NotEmpty { stamp: 7 });
+    assert_eq!(rt; run.said.as_slice(), b"not-empty 7\n".as_slice());
+    assert_eq!(rt; run.session.files().len(), 1);
+    assert_eq!(rt; run.session.files()[0].bytes.as_slice(), b"old".as_slice());
+    Ok(())
+}
+
+#[test]
+fn failing_streams_are_named(rt: HostRuntime) -> Result<(), Fail> {
+    for (reads, writes, status, said, files) in [
+        ([1].as_slice(), [].as_slice(), Status::Read, "fault read\n", 0),
+        ([2].as_slice(), [].as_slice(), Status::Read, "fault read\n", 0),
+        ([].as_slice(), [1].as_slice(), Status::Write, "", 0),
+        ([].as_slice(), [2].as_slice(), Status::Write, "start 0 0 0\n", 1),
+    ] {
+        let run = run_on(rt, b"tab 1 2", MemoryDisk::empty(rt.alloc())?, reads, writes)?;
+        assert_eq!(rt; run.status, status);
+        assert_eq!(rt; run.said.as_slice(), said.as_bytes());
+        assert_eq!(rt; run.session.files().len(), files);
+    }
+    Ok(())
+}
+
+#[test]
+fn other_words_open_nothing(rt: HostRuntime) -> Result<(), Fail> {
+    let alloc = rt.alloc();
+    for words in [
+        [].as_slice(),
+        &["run"],
+        &["run", "d"],
+        &["run", "--inline"],
+        &["run", "--inline", ""],
+        &["run", "--inline", "-d"],
+        &["run", "--inline", "d", "e"],
+        &["fly", "--inline", "d"],
+    ] {
+        let words = list_of(rt, words)?;
+        let mut source = MemorySource::new(alloc, b"tab 1 2", &[])?;
+        let mut sink = MemorySink::new(alloc, &[])?;
+        let (status, session, _tabs) = drive_inline(
+            alloc,
+            &words,
+            &mut source,
+            &mut sink,
+            MemoryDisk::empty(alloc)?,
+            MemoryDisk::empty(alloc)?,
+            &mut FixedClock::new(100),
+        );
+        assert_eq!(rt; status, Status::Usage);
+        assert_eq!(rt; sink.written(), b"usage\n".as_slice());
+        assert_eq!(rt; session.files().len(), 0);
+    }
+    Ok(())
+}
+
+#[test]
+fn a_real_folder_holds_the_same_bytes(rt: HostRuntime) -> Result<(), Fail> {
+    let alloc = rt.alloc();
+    let folder = "a_real_folder_holds_the_same_bytes";
+    fs::create_dir(&rt, folder)?;
+    let words = list_of(rt, &["run", "--inline", folder])?;
+    let mut source = MemorySource::new(alloc, b"tab 1 2\n", &[])?;
+    let mut sink = MemorySink::new(alloc, &[])?;
+    let (status, _session, _tabs) = drive_inline(
+        alloc,
+        &words,
+        &mut source,
+        &mut sink,
+        FolderDisk::new(rt, folder, Family::Session)?,
+        FolderDisk::new(rt, folder, Family::Tabs)?,
+        &mut FixedClock::new(100),
+    );
+    assert_eq!(rt; status, Status::Done { session: 1, tabs: 0 });
+    let name = format!(in alloc; "{folder}/Session_100")?;
+    let bytes = fs::read(&rt, name.as_str())?;
+    assert_eq!(rt; bytes.as_slice(), FIRST_FILE.as_slice());
+    fs::remove_file(&rt, name.as_str())?;
+    fs::remove_dir(&rt, folder)?;
+    Ok(())
+}
+
+#[test]
+fn each_answer_has_its_code(rt: HostRuntime) {
+    for (status, code) in [
+        (Status::Done { session: 1, tabs: 0 }, 0),
+        (Status::Usage, 2),
+        (Status::Disk(Family::Session), 4),
+        (Status::Memory, 8),
+        (Status::NotEmpty { stamp: 7 }, 10),
+    ] {
+        assert_eq!(rt; status.code(), code);
+    }
+}
