@@ -1,7 +1,8 @@
 //! A disk in memory, which tells its files and all its earlier moments.
-ghost use Rattle.std.specs.Prelude.{◌≡◌, true, ◌<◌, ◌^◌, [], IfOk, OnOk, OnErr, IsNone};
+ghost use Rattle.std.specs.Prelude.{◌≡◌, true, ◌<◌, ◌≤◌, ◌^◌, [], length, IfOk, OnOk, OnErr, IsOk, IfSome, IsSome, IsNone};
+ghost use Rattle.session_disk.specs.Causes.{DiskHasCause};
 ghost use Rattle.session_disk.specs.DiskFiles.{is_listed, standing_in};
-ghost use Rattle.session_disk.specs.Moments.{IsAtRest};
+ghost use Rattle.session_disk.specs.Moments.{IsAtRest, IsNewestBelow, IsReadAt, bytes_at};
 ghost use Rattle.session_disk.specs.Recordings.{empty_moment, with_safe_file};
 
 use crate::disk::SessionDisk;
@@ -74,15 +75,36 @@ impl SessionDisk for MemoryDisk {
         self.failed_calls
     }
 
-    fn newest_below(&mut self, below: Option<u64>) -> Result<Option<u64>, DiskError> {
+    fn newest_below(&mut self, below: Option<u64>) -> Result<Option<u64>, DiskError>
+        ensures in_range { IfOk result (λ newest. IfSome newest (λ stamp. stamp < 2 ^ 63)) }
+        ensures within { IfOk result (λ newest. IfSome newest (λ stamp. IfSome below (λ bound. stamp < bound))) }
+        ensures newest { IfOk result (IsNewestBelow (history_of self.old).now.standing below) }
+        ensures unchanged { history_of self.new ≡ history_of self.old }
+        ensures cause { DiskHasCause (failures_of self.old) (failures_of self.new) result }
+        ensures succeeds { IsOk result }
+    {
         Ok(self.recording.newest_below(below))
     }
 
-    fn length(&mut self, stamp: u64) -> Result<u64, DiskError> {
+    fn length(&mut self, stamp: u64) -> Result<u64, DiskError>
+        requires { IsSome ((history_of self.old).now.standing stamp) }
+        ensures bound { IfOk result (λ n. n ≤ 2 ^ 62) }
+        ensures value { IfOk result (λ n. n ≡ length (bytes_at stamp (history_of self.old).now)) }
+        ensures unchanged { history_of self.new ≡ history_of self.old }
+        ensures cause { DiskHasCause (failures_of self.old) (failures_of self.new) result }
+        ensures succeeds { IsOk result }
+    {
         Ok(self.recording.bytes(stamp).len() as u64)
     }
 
-    fn read_at(&mut self, stamp: u64, offset: u64, into: &mut [u8]) -> Result<usize, DiskError> {
+    fn read_at(&mut self, stamp: u64, offset: u64, into: &mut [u8]) -> Result<usize, DiskError>
+        requires { IsSome ((history_of self.old).now.standing stamp) }
+        ensures bound { IfOk result (λ n. n ≤ length into.old) }
+        ensures bytes { IfOk result (λ n. IsReadAt (bytes_at stamp (history_of self.old).now) offset n into.new) }
+        ensures unchanged { history_of self.new ≡ history_of self.old }
+        ensures cause { DiskHasCause (failures_of self.old) (failures_of self.new) result }
+        ensures succeeds { IsOk result }
+    {
         Ok(read_from(self.recording.bytes(stamp), offset, into))
     }
 

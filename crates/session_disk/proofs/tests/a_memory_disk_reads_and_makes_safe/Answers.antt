@@ -12,26 +12,26 @@ append-requires-clause-stands g c =
     let created = ap (λ (h : History). h.now.standing 5) (c.in_ok-create.ensures.changes tt).ok in
     λ _. grind arith
 
-pub length-requires-clause-stands : goal.length-requires-clause-stands
-length-requires-clause-stands g c =
+pub length-requires : goal.length-requires
+length-requires g c =
     let created = ap (λ (h : History). h.now.standing 5) (c.in_ok-create.ensures.changes tt).ok in
     let appended = ap (λ (h : History). h.now.standing 5) (c.in_ok-append.ensures.changes tt).ok in
-    λ _. grind arith
+    grind arith
 
-pub read_at-requires-clause-stands : goal.read_at-requires-clause-stands
-read_at-requires-clause-stands g c =
+pub read_at-requires : goal.read_at-requires
+read_at-requires g c =
     let created = ap (λ (h : History). h.now.standing 5) (c.in_ok-create.ensures.changes tt).ok in
     let appended = ap (λ (h : History). h.now.standing 5) (c.in_ok-append.ensures.changes tt).ok in
     let measured = ap (λ (h : History). h.now.standing 5) c.length.ensures.unchanged in
-    λ _. grind arith
+    grind arith
 
-pub read_at-requires-2-clause-stands : goal.read_at-requires-2-clause-stands
-read_at-requires-2-clause-stands g c =
+pub read_at-requires-2 : goal.read_at-requires-2
+read_at-requires-2 g c =
     let created = ap (λ (h : History). h.now.standing 5) (c.in_ok-create.ensures.changes tt).ok in
     let appended = ap (λ (h : History). h.now.standing 5) (c.in_ok-append.ensures.changes tt).ok in
     let measured = ap (λ (h : History). h.now.standing 5) c.length.ensures.unchanged in
     let read = ap (λ (h : History). h.now.standing 5) c.read_at.ensures.unchanged in
-    λ _. grind arith
+    grind arith
 
 pub sync-requires-clause-stands : goal.sync-requires-clause-stands
 sync-requires-clause-stands g c =
