@@ -62,8 +62,9 @@ fn a_tab_makes_a_synced_file_that_is_told(rt: HostRuntime) -> Result<(), Fail> {
 fn an_empty_script_makes_a_file_without_commands(rt: HostRuntime) -> Result<(), Fail> {
     let run = run_on(rt, b"", MemoryDisk::empty(rt.alloc())?, &[], &[])?;
     assert_eq!(rt; run.status, Status::Done { session: 0, tabs: 0 });
-    assert_eq!(rt; run.session.files().len(), 1);
-    assert_eq!(rt; run.session.files()[0].bytes.as_slice(), &FIRST_FILE[..11]);
+    let files = run.session.files();
+    assert_eq!(rt; files.len(), 1);
+    assert_eq!(rt; files[0].bytes.as_slice(), &FIRST_FILE[..11]);
     Ok(())
 }
 
@@ -100,8 +101,9 @@ fn a_disk_with_a_file_is_left_as_it_is(rt: HostRuntime) -> Result<(), Fail> {
     let run = run_on(rt, b"tab 1 2", session, &[], &[])?;
     assert_eq!(rt; run.status, Status::NotEmpty { stamp: 7 });
     assert_eq!(rt; run.said.as_slice(), b"not-empty 7\n".as_slice());
-    assert_eq!(rt; run.session.files().len(), 1);
-    assert_eq!(rt; run.session.files()[0].bytes.as_slice(), b"old".as_slice());
+    let files = run.session.files();
+    assert_eq!(rt; files.len(), 1);
+    assert_eq!(rt; files[0].bytes.as_slice(), b"old".as_slice());
     Ok(())
 }
 
