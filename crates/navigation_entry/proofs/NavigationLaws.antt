@@ -5,9 +5,13 @@ use Rattle.std.specs.Int.{w32}
 use Rattle.pickle_cells.specs.declared.fault.PickleFault.{PickleFault}
 use Rattle.pickle_cells.specs.Cell.{IsBytes, padding, unit_bytes}
 use Rattle.pickle_cells.specs.CellReading.{units_of}
-use Rattle.pickle_cells.specs.PickleLayout.{Item, Int, Text, Units, IsPickled, pickled_at}
+use Rattle.pickle_cells.specs.PickleLayout.{Item, Int, Text, Units, IsPickled, IsReadAs, pickled_at}
+use Rattle.pickle_cells.proofs.CellLaws.{ok_is}
 use Rattle.pickle_cells.proofs.UnitLaws.{length-units_of}
 use Rattle.pickle_cells.proofs.PickleLaws.{pickled_found, pickled_only, pickled_bytes-is, length-pickled}
+use Rattle.navigation_entry.specs.declared.navigation.Navigation.{Navigation}
+use Rattle.navigation_entry.specs.declared.reference.NavigationRef.{NavigationRef}
+use Rattle.navigation_entry.specs.Views.{IsNavigation, navigation_bytes, reference_items, reference_parts, Shows}
 use Rattle.navigation_entry.specs.Layouts.{navigation_items, navigation_kinds, navigation_size}
 
 abbrev pub Parts : Type 0
@@ -33,3 +37,24 @@ pub own_fits : (url title page_state rest u t p r : List ℕ) → u ≡ url → 
 own_fits url title page_state rest u t p r is-u is-t is-p is-r even whole short =
     let units : 2 * length t ≡ length title = omega (arith, ap length is-t, length-units_of title) in
     (rw is-r whole, rw (is-u, is-p, is-r, units) short)
+
+-- equal items are equal field by field
+same_items : (tab index tab' index' : ℤ) (url title page_state url' title' page_state' : List ℕ) (transition transition' : ℤ)
+    → navigation_items tab index url title page_state transition ≡ navigation_items tab' index' url' title' page_state' transition'
+    → (tab ≡ tab') × (index ≡ index') × (url ≡ url') × (title ≡ title') × (page_state ≡ page_state') × (transition ≡ transition')
+same_items tab index tab' index' url title page_state url' title' page_state' transition transition' e = (cc, cc, cc, cc, cc, cc)
+
+pub reads_found : (payload : List ℕ) (result : Result NavigationRef PickleFault) → IsBytes payload → IsReadAs reference_parts result (pickled_at navigation_kinds payload) → IfOk result (λ r. IsPickled (reference_items r) r.rest.now payload)
+reads_found payload (Ok r) fits read = (pickled_found navigation_kinds payload (reference_parts r) fits read).0
+reads_found payload (Err fault) fits read = tt
+
+pub reads_only : (payload : List ℕ) (result : Result NavigationRef PickleFault) → length payload ≤ 65534 → IsReadAs reference_parts result (pickled_at navigation_kinds payload)
+    → (tab : ℤ) (index : ℤ) (n : Navigation) → IsNavigation tab index n payload → IsOkAnd result (λ r. (r.tab ≡ tab) × (r.index ≡ index) × Shows r n)
+reads_only payload (Ok r) short read tab index n is =
+    let again = pickled_only (navigation_items tab index n.url n.title n.page_state n.transition) n.rest payload (omega arith) is in
+    let parts : ◌≡◌ {A = Parts} (reference_parts r) (navigation_items tab index n.url n.title n.page_state n.transition, n.rest) = ok_is (reference_parts r) (navigation_items tab index n.url n.title n.page_state n.transition, n.rest) (sym read ∙ again) in
+    let same = same_items r.tab r.index tab index r.url.now (units_of r.title.now) r.page_state.now n.url n.title n.page_state r.transition n.transition (ap (λ (p : Parts). p.0) parts) in
+    (same.0, same.1, record { url = sym same.2; title = sym same.3; page_state = sym same.4; transition = sym same.5; rest = sym (ap (λ (p : Parts). p.1) parts) })
+reads_only payload (Err fault) short read tab index n is =
+    let again = pickled_only (navigation_items tab index n.url n.title n.page_state n.transition) n.rest payload (omega arith) is in
+    absurd cc

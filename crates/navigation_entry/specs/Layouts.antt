@@ -1,7 +1,7 @@
 -- The payloads of a navigation and of a group: which items they are, and how long they are (this profile, after
 -- Chromium's components/sessions/core/serialized_navigation_entry.cc and tab groups in session_service_commands.cc).
 use Rattle.std.specs.Prelude.{ℕ, ◌+◌, ◌*◌, ℤ, List, [], ◌∷◌, length}
-use Rattle.pickle_cells.specs.Cell.{padding}
+use Rattle.pickle_cells.specs.Cell.{string_size}
 use Rattle.pickle_cells.specs.PickleLayout.{Item, Int, Uint32, Uint64, Text, Units, ItemKind, IntKind, Uint32Kind, Uint64Kind, TextKind, UnitsKind}
 
 -- tab, index, URL, title, page state and transition
@@ -18,10 +18,6 @@ group_items high low title colour = Uint64 high ∷ Uint64 low ∷ Units title �
 
 abbrev pub group_kinds : List ItemKind
 group_kinds = Uint64Kind ∷ Uint64Kind ∷ UnitsKind ∷ Uint32Kind ∷ []
-
--- the bytes of a string's cell of n bytes of text
-abbrev pub string_size : ℕ → ℕ
-string_size n = 4 + n + padding n
 
 -- the length of a navigation's payload: the sizes of its URL, title (two bytes a unit), page state and rest
 abbrev pub navigation_size : ℕ → ℕ → ℕ → ℕ → ℕ

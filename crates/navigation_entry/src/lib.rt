@@ -9,4 +9,5 @@ mod reference;
 
 pub use bounds::Bounds;
 pub use navigation::Navigation;
+pub use reading::{read_navigation, write_navigation};
 pub use reference::NavigationRef;

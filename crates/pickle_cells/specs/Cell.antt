@@ -1,7 +1,7 @@
 -- Values as the bytes in which they stand in a pickle and in a fixed payload: little-endian, a signed number by
 -- its two's complement. In a pickle each value is padded to a multiple of 4 bytes (Chromium's base/pickle.cc);
 -- the padding of a string is free when it is read and 0 when it is written (this profile).
-use Rattle.std.specs.Prelude.{◌≡◌, ℕ, ◌-◌, ◌%◌, ◌<◌, ◌^◌, ℤ, pos, Bool, not, ◌==◌, List, ◌++◌, length, replicate, get_or}
+use Rattle.std.specs.Prelude.{◌≡◌, ℕ, ◌+◌, ◌-◌, ◌%◌, ◌<◌, ◌^◌, ℤ, pos, Bool, not, ◌==◌, List, ◌++◌, length, replicate, get_or}
 use Rattle.std.specs.List.{flat_map, AllByRecursion}
 use Rattle.std.specs.Int.{w16, w32, w64, to_le_bytes, cast_unsigned, from_bool}
 
@@ -28,6 +28,10 @@ unit_bytes units = flat_map (to_le_bytes w16) units
 -- how many bytes stand between n bytes and the next multiple of 4
 unfoldable pub padding : ℕ → ℕ
 padding n = (4 - n % 4) % 4
+
+-- how many bytes a string's cell has whose characters have n bytes
+abbrev pub string_size : ℕ → ℕ
+string_size n = 4 + n + padding n
 
 -- a truth value: four bytes that are all 0 exactly where it is false
 abbrev pub IsFlag : Bool → List ℕ → Type 0

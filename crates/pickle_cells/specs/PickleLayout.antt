@@ -4,7 +4,7 @@ use Rattle.std.specs.Prelude.{◌≡◌, ℕ, ◌+◌, ◌*◌, ◌<◌, ◌^◌
 use Rattle.std.specs.List.{AllByRecursion}
 use Rattle.std.specs.Int.{w32, w64}
 use Rattle.pickle_cells.specs.declared.fault.PickleFault.{PickleFault}
-use Rattle.pickle_cells.specs.Cell.{int, int64, uint32, uint64, flag, string, string16, padding, IsFlag, IsString, IsString16, IsPickle, pickle}
+use Rattle.pickle_cells.specs.Cell.{int, int64, uint32, uint64, flag, string, string16, string_size, IsFlag, IsString, IsString16, IsPickle, pickle}
 use Rattle.pickle_cells.specs.CellReading.{Unread, ◌>>=◌, int_at, int64_at, uint32_at, uint64_at, flag_at, string_at, string16_at, units_of, body_at}
 
 -- an item: a number, a truth value, the bytes of a string, the units of a string of 16-bit units
@@ -63,8 +63,8 @@ item_size (Int64 z) = 8
 item_size (Uint32 n) = 4
 item_size (Uint64 n) = 8
 item_size (Flag b) = 4
-item_size (Text text) = 4 + length text + padding (length text)
-item_size (Units units) = 4 + 2 * length units + padding (2 * length units)
+item_size (Text text) = string_size (length text)
+item_size (Units units) = string_size (2 * length units)
 
 -- how long the payloads of these items and this tail are
 abbrev pub items_size : List Item → List ℕ → ℕ

@@ -1,7 +1,7 @@
 //! Writing a pickle, one item after another.
 ghost use Rattle.std.specs.Prelude.{◌≡◌, ◌+◌, ◌*◌, ◌%◌, ◌<◌, ◌≤◌, ◌^◌, [], ◌++◌, length, IfOk, OnOk, OnErr, IsOk};
 ghost use Rattle.std.specs.Vec.{vec_len, vec_capacity};
-ghost use Rattle.pickle_cells.specs.Cell.{int, int64, uint32, uint64, flag, string, string16, unit_bytes, pickle};
+ghost use Rattle.pickle_cells.specs.Cell.{int, int64, uint32, uint64, flag, string, string16, string_size, unit_bytes, pickle};
 
 use std::alloc::{AllocError, Global};
 use std::marker::Model;
@@ -48,6 +48,7 @@ impl PickleWriter {
     pub fn put_int(&mut self, v: i32) -> Result<(), AllocError>
         requires { length self.old + 4 ≤ 65530 }
         ensures written { OnOk result (self.new ≡ self.old ++ int v) }
+        ensures len { OnOk result (length self.new ≡ length self.old + 4) }
         ensures unchanged { OnErr result (self.new ≡ self.old) }
     {
         self.put_rest(&v.cast_unsigned().to_le_bytes())
@@ -58,6 +59,7 @@ impl PickleWriter {
     pub fn put_int64(&mut self, v: i64) -> Result<(), AllocError>
         requires { length self.old + 8 ≤ 65530 }
         ensures written { OnOk result (self.new ≡ self.old ++ int64 v) }
+        ensures len { OnOk result (length self.new ≡ length self.old + 8) }
         ensures unchanged { OnErr result (self.new ≡ self.old) }
     {
         self.put_rest(&v.cast_unsigned().to_le_bytes())
@@ -68,6 +70,7 @@ impl PickleWriter {
     pub fn put_uint32(&mut self, v: u32) -> Result<(), AllocError>
         requires { length self.old + 4 ≤ 65530 }
         ensures written { OnOk result (self.new ≡ self.old ++ uint32 v) }
+        ensures len { OnOk result (length self.new ≡ length self.old + 4) }
         ensures unchanged { OnErr result (self.new ≡ self.old) }
     {
         self.put_rest(&v.to_le_bytes())
@@ -78,6 +81,7 @@ impl PickleWriter {
     pub fn put_uint64(&mut self, v: u64) -> Result<(), AllocError>
         requires { length self.old + 8 ≤ 65530 }
         ensures written { OnOk result (self.new ≡ self.old ++ uint64 v) }
+        ensures len { OnOk result (length self.new ≡ length self.old + 8) }
         ensures unchanged { OnErr result (self.new ≡ self.old) }
     {
         self.put_rest(&v.to_le_bytes())
@@ -88,6 +92,7 @@ impl PickleWriter {
     pub fn put_flag(&mut self, v: bool) -> Result<(), AllocError>
         requires { length self.old + 4 ≤ 65530 }
         ensures written { OnOk result (self.new ≡ self.old ++ flag v) }
+        ensures len { OnOk result (length self.new ≡ length self.old + 4) }
         ensures unchanged { OnErr result (self.new ≡ self.old) }
     {
         self.put_uint32(v as u32)
@@ -96,8 +101,9 @@ impl PickleWriter {
     /// Appends a string: its length in 4 bytes, its bytes, and zeros up to a multiple of 4.
     #[tactic(auto, using(crate::proofs::ItemLaws::lengths))]
     pub fn put_bytes(&mut self, v: &[u8]) -> Result<(), AllocError>
-        requires { length self.old + length (string v.now) ≤ 65530 }
+        requires { length self.old + string_size (length v.now) ≤ 65530 }
         ensures written { OnOk result (self.new ≡ self.old ++ string v.now) }
+        ensures len { OnOk result (length self.new ≡ length self.old + string_size (length v.now)) }
         ensures unchanged { OnErr result (self.new ≡ self.old) }
     {
         append_string(&mut self.bytes, v)?;
@@ -107,8 +113,9 @@ impl PickleWriter {
     /// Appends a string of 16-bit units: their number in 4 bytes, two bytes a unit, and zeros up to a multiple of 4.
     #[tactic(auto, using(crate::proofs::ItemLaws::lengths))]
     pub fn put_units(&mut self, v: &[u16]) -> Result<(), AllocError>
-        requires { length self.old + length (string16 v.now) ≤ 65530 }
+        requires { length self.old + string_size (2 * length v.now) ≤ 65530 }
         ensures written { OnOk result (self.new ≡ self.old ++ string16 v.now) }
+        ensures len { OnOk result (length self.new ≡ length self.old + string_size (2 * length v.now)) }
         ensures unchanged { OnErr result (self.new ≡ self.old) }
     {
         append_string16(&mut self.bytes, v)?;
@@ -120,6 +127,7 @@ impl PickleWriter {
         requires whole { length v.now % 4 ≡ 0 }
         requires short { length self.old + length v.now ≤ 65530 }
         ensures written { OnOk result (self.new ≡ self.old ++ v.now) }
+        ensures len { OnOk result (length self.new ≡ length self.old + length v.now) }
         ensures unchanged { OnErr result (self.new ≡ self.old) }
     {
         self.bytes.extend_from_slice(v)?;
