@@ -1,11 +1,11 @@
 -- The payload of a navigation, both ways, and its length.
-use Rattle.std.proofs.Common.{◌≡◌, ℕ, ◌+◌, ◌*◌, ◌/◌, ◌%◌, ◌^◌, ◌<◌, ◌≤◌, ℤ, List, [], ◌∷◌, length, Result, Ok, Err, refl, sym, ap, subst, ◌∙◌, arith}
+use Rattle.std.proofs.Common.{◌≡◌, ℕ, ◌+◌, ◌*◌, ◌/◌, ◌%◌, ◌^◌, ◌<◌, ◌≤◌, ℤ, List, [], ◌∷◌, ◌++◌, append_assoc, length, Result, Ok, Err, refl, sym, ap, subst, ◌∙◌, arith}
 use Rattle.std.specs.Prelude.{FitsSigned, IfOk, IsOkAnd}
 use Rattle.std.specs.Int.{w32}
 use Rattle.pickle_cells.specs.declared.fault.PickleFault.{PickleFault}
-use Rattle.pickle_cells.specs.Cell.{IsBytes, padding, unit_bytes}
+use Rattle.pickle_cells.specs.Cell.{IsBytes, padding, unit_bytes, int, string, string16, pickle}
 use Rattle.pickle_cells.specs.CellReading.{units_of}
-use Rattle.pickle_cells.specs.PickleLayout.{Item, Int, Text, Units, IsPickled, IsReadAs, pickled_at}
+use Rattle.pickle_cells.specs.PickleLayout.{Item, Int, Text, Units, IsPickled, IsReadAs, pickled_at, pickled_bytes, items_bytes, item_bytes}
 use Rattle.pickle_cells.proofs.CellLaws.{ok_is}
 use Rattle.pickle_cells.proofs.UnitLaws.{length-units_of}
 use Rattle.pickle_cells.proofs.PickleLaws.{pickled_found, pickled_only, pickled_bytes-is, length-pickled}
@@ -58,3 +58,17 @@ reads_only payload (Ok r) short read tab index n is =
 reads_only payload (Err fault) short read tab index n is =
     let again = pickled_only (navigation_items tab index n.url n.title n.page_state n.transition) n.rest payload (omega arith) is in
     absurd cc
+
+-- the items put one after another are the written payload
+pub put_together : (tab index : ℤ) (url title page_state : List ℕ) (transition : ℤ) (rest : List ℕ)
+    → pickle ([] ++ int tab ++ int index ++ string url ++ string16 title ++ string page_state ++ int transition ++ rest) ≡ pickled_bytes (navigation_items tab index url title page_state transition) rest
+unfolding pickled_bytes items_bytes item_bytes
+put_together tab index url title page_state transition rest = ap pickle (simp append_assoc)
+
+-- the same where each value and each body stands under a name of its own
+pub put_as : (tab index : ℤ) (url title page_state : List ℕ) (transition : ℤ) (rest : List ℕ) (i j k : ℤ) (u t p r a b c d e f g h out : List ℕ)
+    → i ≡ tab → j ≡ index → k ≡ transition → u ≡ url → t ≡ title → p ≡ page_state → r ≡ rest
+    → a ≡ [] → b ≡ a ++ int i → c ≡ b ++ int j → d ≡ c ++ string u → e ≡ d ++ string16 t → f ≡ e ++ string p → g ≡ f ++ int k → h ≡ g ++ r → out ≡ pickle h
+    → out ≡ pickled_bytes (navigation_items tab index url title page_state transition) rest
+put_as tab index url title page_state transition rest i j k u t p r a b c d e f g h out is-i is-j is-k is-u is-t is-p is-r is-a is-b is-c is-d is-e is-f is-g is-h is-out =
+    is-out ∙ ap pickle (rw (is-h, is-g, is-f, is-e, is-d, is-c, is-b, is-a, is-i, is-j, is-k, is-u, is-t, is-p, is-r) refl) ∙ put_together tab index url title page_state transition rest

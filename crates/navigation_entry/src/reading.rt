@@ -30,6 +30,7 @@ pub fn write_navigation(alloc: Global, tab: i32, index: i32, navigation: &Naviga
     let url = navigation.url.as_slice();
     let title = navigation.title.units();
     let page_state = navigation.page_state.as_slice();
+    let transition = navigation.transition;
     let rest = navigation.rest.as_slice();
     let size = 12
         + cell_size(url.len())
@@ -42,7 +43,7 @@ pub fn write_navigation(alloc: Global, tab: i32, index: i32, navigation: &Naviga
     writer.put_bytes(url)?;
     writer.put_units(title)?;
     writer.put_bytes(page_state)?;
-    writer.put_int(navigation.transition)?;
+    writer.put_int(transition)?;
     writer.put_rest(rest)?;
     Ok(writer.finish())
 }
