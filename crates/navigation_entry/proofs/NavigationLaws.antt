@@ -1,5 +1,5 @@
 -- The payload of a navigation, both ways, and its length.
-use Rattle.std.proofs.Common.{◌≡◌, ℕ, ◌+◌, ◌*◌, ◌/◌, ◌%◌, ◌^◌, ◌<◌, ◌≤◌, ℤ, List, [], ◌∷◌, ◌++◌, append_assoc, length, Result, Ok, Err, refl, sym, ap, subst, ◌∙◌, arith}
+use Rattle.std.proofs.Common.{◌≡◌, ℕ, ◌+◌, ◌*◌, ◌/◌, ◌%◌, ◌^◌, ◌<◌, ◌≤◌, ℤ, List, [], ◌∷◌, ◌++◌, append_assoc, length, get_or, Result, Ok, Err, refl, sym, ap, subst, ◌∙◌, arith}
 use Rattle.std.specs.Prelude.{FitsSigned, IfOk, IsOkAnd}
 use Rattle.std.specs.Int.{w32}
 use Rattle.pickle_cells.specs.declared.fault.PickleFault.{PickleFault}
@@ -7,7 +7,7 @@ use Rattle.pickle_cells.specs.Cell.{IsBytes, padding, unit_bytes, int, string, s
 use Rattle.pickle_cells.specs.CellReading.{units_of}
 use Rattle.pickle_cells.specs.PickleLayout.{Item, Int, Text, Units, IsPickled, IsReadAs, pickled_at, pickled_bytes, items_bytes, item_bytes}
 use Rattle.pickle_cells.proofs.CellLaws.{ok_is}
-use Rattle.pickle_cells.proofs.UnitLaws.{length-units_of}
+use Rattle.pickle_cells.proofs.UnitLaws.{length-units_of, units_below}
 use Rattle.pickle_cells.proofs.PickleLaws.{pickled_found, pickled_only, pickled_bytes-is, length-pickled}
 use Rattle.navigation_entry.specs.declared.navigation.Navigation.{Navigation}
 use Rattle.navigation_entry.specs.declared.reference.NavigationRef.{NavigationRef}
@@ -72,3 +72,13 @@ pub put_as : (tab index : ℤ) (url title page_state : List ℕ) (transition : �
     → out ≡ pickled_bytes (navigation_items tab index url title page_state transition) rest
 put_as tab index url title page_state transition rest i j k u t p r a b c d e f g h out is-i is-j is-k is-u is-t is-p is-r is-a is-b is-c is-d is-e is-f is-g is-h is-out =
     is-out ∙ ap pickle (rw (is-h, is-g, is-f, is-e, is-d, is-c, is-b, is-a, is-i, is-j, is-k, is-u, is-t, is-p, is-r) refl) ∙ put_together tab index url title page_state transition rest
+
+-- what is written for a navigation that fits says that navigation, and is short enough
+pub written_is : (tab index : ℤ) (url title page_state : List ℕ) (transition : ℤ) (rest out : List ℕ) → FitsSigned w32 tab → FitsSigned w32 index → FitsSigned w32 transition → ((i : ℕ) → get_or title i 0 < 2 ^ 16)
+    → length rest % 4 ≡ 0 → navigation_size (length url) (2 * length title) (length page_state) (length rest) ≤ 65534 → out ≡ pickled_bytes (navigation_items tab index url title page_state transition) rest
+    → IsPickled (navigation_items tab index url title page_state transition) rest out × (length out ≤ 65534)
+written_is tab index url title page_state transition rest out fits-tab fits-index fits-transition units whole short is =
+    let items = navigation_items tab index url title page_state transition in
+    let written = pickled_bytes-is items rest (fits-tab, (fits-index, (omega arith, ((units_below title units, omega arith), (omega arith, (fits-transition, tt)))))) whole in
+    let says : IsPickled items rest out = subst (IsPickled items rest) (sym is) written in
+    (says, omega (arith, (length-pickled items rest out says).0))

@@ -26,6 +26,8 @@ pub fn read_navigation(payload: &[u8]) -> Result<NavigationRef<'_>, PickleFault>
 #[tactic(auto, using(pickle_cells::proofs::ItemLaws::lengths), unfolding(pickle_cells::specs::PickleLayout::pickled_bytes, pickle_cells::specs::PickleLayout::items_bytes, pickle_cells::specs::PickleLayout::item_bytes))]
 pub fn write_navigation(alloc: Global, tab: i32, index: i32, navigation: &Navigation) -> Result<Vec<u8>, AllocError>
     ensures written { IfOk result (λ v. v.items ≡ navigation_bytes tab index navigation.now) }
+    ensures again { IfOk result (λ v. IsNavigation tab index navigation.now v.items) }
+    ensures short { IfOk result (λ v. length v.items ≤ 65534) }
 {
     let url = navigation.url.as_slice();
     let title = navigation.title.units();

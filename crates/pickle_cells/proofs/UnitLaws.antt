@@ -83,3 +83,8 @@ unfolding units_of
 units_of-short [] lt = refl
 units_of-short (low ∷ []) lt = refl
 units_of-short (low ∷ high ∷ bytes) lt = absurd (omega arith)
+
+-- units that are below 2 ^ 16 at each index
+pub units_below : (units : List ℕ) → ((i : ℕ) → get_or units i 0 < 2 ^ 16) → AllByRecursion (λ u. u < 2 ^ 16) units
+units_below [] fits = tt
+units_below (unit ∷ units) fits = (fits 0, units_below units (λ i. fits (suc i)))
