@@ -1,2 +1,3 @@
 pub mod FittingLaws
 pub mod NavigationLaws
+pub mod GroupLaws

@@ -1,3 +1,4 @@
 pub mod Layouts
 pub mod Fitting
 pub mod Views
+pub mod GroupViews

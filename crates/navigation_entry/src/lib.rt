@@ -3,11 +3,15 @@
 #![tactic(auto)]
 
 mod bounds;
+mod group;
+mod group_reading;
 mod navigation;
 mod reading;
 mod reference;
 
 pub use bounds::Bounds;
+pub use group::{GroupInfo, GroupRef};
+pub use group_reading::{read_group, write_group};
 pub use navigation::Navigation;
 pub use reading::{read_navigation, write_navigation};
 pub use reference::NavigationRef;

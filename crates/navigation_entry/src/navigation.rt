@@ -23,7 +23,13 @@ impl Navigation {
     /// A navigation whose long fields are emptied. URL, title and page state are taken in this order, with a
     /// running sum of their bytes, two a unit; a field that would bring the sum to 64,511 or more is emptied and
     /// adds nothing. It takes no memory.
-    pub fn fitted(url: Blob, title: Text16, page_state: Blob, transition: i32, rest: Blob) -> Navigation
+    pub fn fitted(
+        url: Blob,
+        title: Text16,
+        page_state: Blob,
+        transition: i32,
+        rest: Blob,
+    ) -> Navigation
         requires whole { length rest % 4 ≡ 0 }
         requires few { length rest ≤ 984 }
         ensures url { result.url ≡ fitted_url url }

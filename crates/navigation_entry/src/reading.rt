@@ -6,8 +6,8 @@ ghost use Rattle.navigation_entry.specs.declared.navigation.Navigation.{Navigati
 ghost use Rattle.navigation_entry.specs.Layouts.{navigation_items, navigation_kinds};
 ghost use Rattle.navigation_entry.specs.Views.{IsNavigation, navigation_bytes, reference_items, reference_parts, Shows};
 
-use crate::reference::NavigationRef;
 use crate::navigation::Navigation;
+use crate::reference::NavigationRef;
 use pickle_cells::{Cursor, PickleFault, PickleWriter};
 use std::alloc::{AllocError, Global};
 
@@ -24,7 +24,12 @@ pub fn read_navigation(payload: &[u8]) -> Result<NavigationRef<'_>, PickleFault>
 
 /// The payload that says a navigation of a tab at an index, in one allocation.
 #[tactic(auto, using(pickle_cells::proofs::ItemLaws::lengths), unfolding(pickle_cells::specs::PickleLayout::pickled_bytes, pickle_cells::specs::PickleLayout::items_bytes, pickle_cells::specs::PickleLayout::item_bytes))]
-pub fn write_navigation(alloc: Global, tab: i32, index: i32, navigation: &Navigation) -> Result<Vec<u8>, AllocError>
+pub fn write_navigation(
+    alloc: Global,
+    tab: i32,
+    index: i32,
+    navigation: &Navigation,
+) -> Result<Vec<u8>, AllocError>
     ensures written { IfOk result (λ v. v.items ≡ navigation_bytes tab index navigation.now) }
     ensures again { IfOk result (λ v. IsNavigation tab index navigation.now v.items) }
     ensures short { IfOk result (λ v. length v.items ≤ 65534) }
@@ -52,7 +57,7 @@ pub fn write_navigation(alloc: Global, tab: i32, index: i32, navigation: &Naviga
 
 // The bytes of a string's cell of so many bytes of text.
 #[tactic(auto, unfolding(pickle_cells::specs::Cell::padding))]
-fn cell_size(text: usize) -> usize
+pub(crate) fn cell_size(text: usize) -> usize
     requires { text < 2 ^ 32 }
     ensures { result ≡ string_size text }
 {

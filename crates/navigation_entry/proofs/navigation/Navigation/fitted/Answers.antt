@@ -6,5 +6,5 @@ pub invariant_of-result : goal.invariant_of-result
 invariant_of-result c = record {
   whole = c.requires.whole;
   short = fitted_short c.args.url c.args.title c.args.page_state _ _ _ c.kept_blob-url.new.sum c.kept_text-title.new.sum (length c.args.rest) c.requires.few
-    c.kept_blob-url.ensures.field c.kept_blob-url.ensures.sum c.kept_text-title.ensures.field c.kept_text-title.ensures.sum c.kept_blob-page_state.ensures.field;
+      c.kept_blob-url.ensures.field c.kept_blob-url.ensures.sum c.kept_text-title.ensures.field c.kept_text-title.ensures.sum c.kept_blob-page_state.ensures.field;
 }
