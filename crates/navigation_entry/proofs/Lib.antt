@@ -1,3 +1,5 @@
 pub mod FittingLaws
 pub mod NavigationLaws
 pub mod GroupLaws
+pub mod PairLaws
+pub mod KeptLaws

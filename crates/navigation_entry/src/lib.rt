@@ -3,15 +3,20 @@
 #![tactic(auto)]
 
 mod bounds;
+mod display;
+mod fields;
 mod group;
 mod group_reading;
+mod more;
 mod navigation;
 mod reading;
 mod reference;
 
 pub use bounds::Bounds;
+pub use display::read_more;
 pub use group::{GroupInfo, GroupRef};
 pub use group_reading::{read_group, write_group};
+pub use more::{InfoPair, InfoPairs, More};
 pub use navigation::Navigation;
 pub use reading::{read_navigation, write_navigation};
 pub use reference::NavigationRef;
