@@ -20,3 +20,6 @@ pub use more::{InfoPair, InfoPairs, More};
 pub use navigation::Navigation;
 pub use reading::{read_navigation, write_navigation};
 pub use reference::NavigationRef;
+
+#[cfg(test)]
+mod tests;

@@ -27,6 +27,10 @@ impl Model for InfoPairs {
 }
 
 impl InfoPairs {
+    ghost use Rattle.std.specs.Borrow.{Lends, sem};
+    ghost use Rattle.navigation_entry.specs.contracts.more.InfoPairs.{the_row};
+    ghost use Rattle.navigation_entry.specs.Rows.{pairs_row};
+
     pub fn from_vec(list: Vec<InfoPair>) -> InfoPairs
         ensures { result ≡ list.items }
     {
@@ -37,6 +41,14 @@ impl InfoPairs {
         ensures { result.now ≡ self.now }
     {
         self.pairs.as_slice()
+    }
+
+    /// The vector itself, which may be changed.
+    pub fn as_mut_vec(&mut self) -> &mut Vec<InfoPair>
+        ensures* writes_back { sem 𝓛 (Lends the_row pairs_row self.entry result (λ v. v.items)) }
+        ensures value { result.now.items ≡ self.old }
+    {
+        &mut self.pairs
     }
 
     pub fn into_vec(self) -> Vec<InfoPair>
