@@ -6,8 +6,7 @@ ghost use Rattle.navigation_entry.specs.Layouts.{group_kinds};
 ghost use Rattle.navigation_entry.specs.GroupViews.{IsGroup, group_bytes, group_ref_items, group_ref_parts, ShowsGroup};
 
 use crate::group::{GroupInfo, GroupRef};
-use crate::reading::cell_size;
-use pickle_cells::{Cursor, PickleFault, PickleWriter};
+use pickle_cells::{Cursor, PickleFault, PickleWriter, string_item_size};
 use std::alloc::{AllocError, Global};
 
 /// The group that a payload says. The first field that doesn't read gives its fault. It takes no memory, and touches
@@ -33,7 +32,7 @@ pub fn write_group(alloc: Global, group: &GroupInfo) -> Result<Vec<u8>, AllocErr
     let high = group.high;
     let low = group.low;
     let rest = group.rest.as_slice();
-    let size = 20 + cell_size(2 * title.len()) + rest.len();
+    let size = 20 + string_item_size(2 * title.len()) + rest.len();
     let mut writer = PickleWriter::with_capacity(alloc, size)?;
     writer.put_uint64(high)?;
     writer.put_uint64(low)?;

@@ -1,6 +1,5 @@
 //! Navigations read from payloads and written to them.
 ghost use Rattle.std.specs.Prelude.{◌≡◌, ◌%◌, ◌<◌, ◌≤◌, ◌^◌, ℤ, List, length, IfOk, IsOkAnd, Ok};
-ghost use Rattle.pickle_cells.specs.Cell.{string_size};
 ghost use Rattle.pickle_cells.specs.PickleLayout.{IsPickled, IsReadAs, pickled_at};
 ghost use Rattle.navigation_entry.specs.declared.navigation.Navigation.{Navigation};
 ghost use Rattle.navigation_entry.specs.Layouts.{navigation_items, navigation_kinds};
@@ -8,7 +7,7 @@ ghost use Rattle.navigation_entry.specs.Views.{IsNavigation, navigation_bytes, r
 
 use crate::navigation::Navigation;
 use crate::reference::NavigationRef;
-use pickle_cells::{Cursor, PickleFault, PickleWriter};
+use pickle_cells::{Cursor, PickleFault, PickleWriter, string_item_size};
 use std::alloc::{AllocError, Global};
 
 /// The navigation that a payload says, and its tab and index. The first field that doesn't read gives its fault. It
@@ -40,9 +39,9 @@ pub fn write_navigation(
     let transition = navigation.transition;
     let rest = navigation.rest.as_slice();
     let size = 12
-        + cell_size(url.len())
-        + cell_size(2 * title.len())
-        + cell_size(page_state.len())
+        + string_item_size(url.len())
+        + string_item_size(2 * title.len())
+        + string_item_size(page_state.len())
         + rest.len();
     let mut writer = PickleWriter::with_capacity(alloc, size)?;
     writer.put_int(tab)?;
@@ -53,15 +52,6 @@ pub fn write_navigation(
     writer.put_int(transition)?;
     writer.put_rest(rest)?;
     Ok(writer.finish())
-}
-
-// The bytes of a string's cell of so many bytes of text.
-#[tactic(auto, unfolding(pickle_cells::specs::Cell::padding))]
-pub(crate) fn cell_size(text: usize) -> usize
-    requires { text < 2 ^ 32 }
-    ensures { result ≡ string_size text }
-{
-    4 + text + (4 - text % 4) % 4
 }
 
 #[tactic(auto, unfolding(pickle_cells::specs::PickleLayout::pickled_at, pickle_cells::specs::PickleLayout::items_at, pickle_cells::specs::PickleLayout::item_at))]

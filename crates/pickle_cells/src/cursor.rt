@@ -7,6 +7,7 @@ ghost use Rattle.pickle_cells.specs.CellReading.{Unread, Gives, told, units_of, 
 ghost use Rattle.pickle_cells.specs.declared.fault.PickleFault.TheVariants.{Short};
 
 use crate::fault::PickleFault;
+use crate::size::padding_behind;
 use std::marker::Model;
 
 /// What is left to read of a pickle: a borrowed slice and its offset in the pickle. A call takes no memory, reads
@@ -252,12 +253,11 @@ fn uint64_in(place: u64, bytes: &[u8]) -> Result<(u64, &[u8]), PickleFault>
     Ok((number, rest))
 }
 
-#[tactic(auto, unfolding(crate::specs::Cell::padding))]
 fn text_in(place: u64, size: usize, bytes: &[u8]) -> Result<(&[u8], &[u8]), PickleFault>
     requires { size < 2 ^ 33 }
     ensures { MatchResult result (λ x. (size + padding size ≤ length bytes.now) × (x.0.now ≡ take size bytes.now) × (x.1.now ≡ drop (size + padding size) bytes.now)) (λ fault. (length bytes.now < size + padding size) × (fault ≡ Short (told place))) }
 {
-    let padded = size + (4 - size % 4) % 4;
+    let padded = size + padding_behind(size);
     if bytes.len() < padded {
         return Err(PickleFault::Short {
             at: told_place(place),

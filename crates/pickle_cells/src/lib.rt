@@ -5,12 +5,14 @@
 mod blob;
 mod cursor;
 mod fault;
+mod size;
 mod text16;
 mod writer;
 
 pub use blob::Blob;
 pub use cursor::Cursor;
 pub use fault::PickleFault;
+pub use size::string_item_size;
 pub use text16::Text16;
 pub use writer::PickleWriter;
 

@@ -3,6 +3,7 @@ ghost use Rattle.std.specs.Prelude.{◌≡◌, ◌+◌, ◌*◌, ◌%◌, ◌<�
 ghost use Rattle.std.specs.Vec.{vec_len, vec_capacity};
 ghost use Rattle.pickle_cells.specs.Cell.{int, int64, uint32, uint64, flag, string, string16, string_size, unit_bytes, pickle};
 
+use crate::size::{padding_behind, string_item_size};
 use std::alloc::{AllocError, Global};
 use std::marker::Model;
 
@@ -149,32 +150,30 @@ impl PickleWriter {
     }
 }
 
-#[tactic(auto, unfolding(crate::specs::Cell::counted, crate::specs::Cell::int, crate::specs::Cell::padding))]
+#[tactic(auto, unfolding(crate::specs::Cell::counted, crate::specs::Cell::int))]
 fn append_string(out: &mut Vec<u8>, text: &[u8]) -> Result<(), AllocError>
     requires { length text.now < 2 ^ 31 }
     ensures written { OnOk result (out.new.items ≡ out.old.items ++ string text.now) }
     ensures unchanged { OnErr result (out.new.items ≡ out.old.items) }
 {
-    let padding = (4 - text.len() % 4) % 4;
-    out.reserve(4 + text.len() + padding)?;
+    out.reserve(string_item_size(text.len()))?;
     out.extend_from_slice(&(text.len() as u32).to_le_bytes())?;
     out.extend_from_slice(text)?;
-    out.resize(out.len() + padding, 0)?;
+    out.resize(out.len() + padding_behind(text.len()), 0)?;
     Ok(())
 }
 
-#[tactic(auto, using(crate::proofs::UnitLaws::unit_lengths), unfolding(crate::specs::Cell::counted, crate::specs::Cell::int, crate::specs::Cell::padding))]
+#[tactic(auto, using(crate::proofs::UnitLaws::unit_lengths), unfolding(crate::specs::Cell::counted, crate::specs::Cell::int))]
 fn append_string16(out: &mut Vec<u8>, units: &[u16]) -> Result<(), AllocError>
     requires { length units.now < 2 ^ 30 }
     ensures written { OnOk result (out.new.items ≡ out.old.items ++ string16 units.now) }
     ensures unchanged { OnErr result (out.new.items ≡ out.old.items) }
 {
     let size = 2 * units.len();
-    let padding = (4 - size % 4) % 4;
-    out.reserve(4 + size + padding)?;
+    out.reserve(string_item_size(size))?;
     out.extend_from_slice(&(units.len() as u32).to_le_bytes())?;
     append_units(out, units)?;
-    out.resize(out.len() + padding, 0)?;
+    out.resize(out.len() + padding_behind(size), 0)?;
     Ok(())
 }
 
