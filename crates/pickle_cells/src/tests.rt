@@ -25,6 +25,7 @@ fn a_text_keeps_half_a_surrogate_pair(rt: HostRuntime) -> Result<(), Fail> {
 }
 
 #[test]
+#[tactic(auto, unfolding(crate::specs::Cell::padding))]
 fn an_int_and_a_string_are_written(rt: HostRuntime) -> Result<(), Fail> {
     let mut writer = PickleWriter::new(rt.alloc())?;
     writer.put_int(1)?;
@@ -35,6 +36,7 @@ fn an_int_and_a_string_are_written(rt: HostRuntime) -> Result<(), Fail> {
 }
 
 #[test]
+#[tactic(auto, unfolding(crate::specs::Cell::padding))]
 fn a_string_of_units_is_written(rt: HostRuntime) -> Result<(), Fail> {
     let mut writer = PickleWriter::new(rt.alloc())?;
     writer.put_units(&[0x48])?;
@@ -44,6 +46,7 @@ fn a_string_of_units_is_written(rt: HostRuntime) -> Result<(), Fail> {
 }
 
 #[test]
+#[tactic(auto, using(crate::proofs::ItemLaws::lengths), unfolding(crate::specs::Cell::padding))]
 fn each_kind_of_item_is_read_as_it_was_written(rt: HostRuntime) -> Result<(), Fail> {
     let mut writer = PickleWriter::with_capacity(rt.alloc(), 48)?;
     writer.put_int(-2)?;
