@@ -1,6 +1,5 @@
 -- The file that a script makes, line by line: what the bytes so far and the lines that are left make together.
 use Rattle.std.proofs.Common.{◌≡◌, ℕ, suc, ◌+◌, ◌≤◌, ◌<◌, List, [], ◌∷◌, ◌++◌, length, Option, Some, None, append_assoc, add-one, refl, sym, ap, ◌∙◌, arith}
-use Rattle.std.specs.List.{flat_map}
 use Rattle.std.proofs.lemmas.List.{append-nil}
 use Rattle.snss_frames.specs.Header.{header}
 use Rattle.snss_frames.specs.Frame.{frame_bytes, marker}

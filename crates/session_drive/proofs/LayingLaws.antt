@@ -1,12 +1,12 @@
 -- The calls that lay a file of commands on a bare disk, one after another: what stands after each that
 -- succeeds, and that whatever one of them answers, a crash so far leaves only good pairs.
-use Rattle.std.proofs.Common.{◌≡◌, ◌≢◌, ℕ, ◌+◌, ◌<◌, ◌≤◌, Bool, true, false, max, List, [], ◌++◌, length, take, Option, Some, None, Result, Ok, refl, sym, ap, ◌∙◌, subst, arith}
+use Rattle.std.proofs.Common.{◌≡◌, ℕ, Bool, true, false, List, length, take, Option, Result, Ok, refl, sym, ap, ◌∙◌, subst, arith}
 use Rattle.std.proofs.lemmas.List.{take_all}
 use Rattle.session_commands.specs.declared.command.SessionCommand.{SessionCommand}
 use Rattle.session_disk.specs.declared.failure.DiskError.{DiskError}
-use Rattle.session_disk.specs.Moments.{Standing, Moment, after_create, after_append, after_sync, after_settle, after_tell, settled_file, bytes_at, bytes_of, IsAtRest}
-use Rattle.session_disk.specs.Images.{Image, OnlyLeaves}
-use Rattle.session_disk.specs.Histories.{History, after, Changes, Leaves}
+use Rattle.session_disk.specs.Moments.{Standing, Moment, after_create, after_append, after_sync, after_settle, after_tell, bytes_at, bytes_of}
+use Rattle.session_disk.specs.Images.{OnlyLeaves}
+use Rattle.session_disk.specs.Histories.{History, Changes, Leaves}
 use Rattle.session_disk.proofs.Leaves.{Leaves-call, Leaves-trans}
 use Rattle.session_drive.specs.Replay.{start}
 use Rattle.session_drive.specs.Recovery.{IsGood}
@@ -45,14 +45,14 @@ module _ (q : List SessionCommand) (stamp : ℕ) (tabs : AreTabs q) (old : Histo
   pub append_leaves : {T : Type 0} {h new : History} {r : Result T DiskError} (bytes : List ℕ) → bytes ≡ file_of q → IsLaid h fresh_file → Changes h new r (length bytes) (λ n. after_append stamp (take n bytes)) → Leaves old new (IsGood start q)
   append_leaves {h = h} bytes whole laid changes =
       Leaves-trans laid.leaves (Leaves-call (IsGood start q) changes (good h.now fresh_file 0 laid.lone laid.untold refl)
-        (λ n _. good (after_append stamp (take n bytes) h.now) _ n (lone_append h.now stamp fresh_file (take n bytes) laid.lone) laid.untold (ap (take n) whole)))
+      (λ n _. good (after_append stamp (take n bytes) h.now) _ n (lone_append h.now stamp fresh_file (take n bytes) laid.lone) laid.untold (ap (take n) whole)))
 
   pub appended : {T : Type 0} {h new : History} {x : T} (bytes : List ℕ) → bytes ≡ file_of q → IsLaid h fresh_file → Changes h new (Ok x) (length bytes) (λ n. after_append stamp (take n bytes)) → IsLaid new (laid_file q 0 false)
   appended {h = h} bytes whole laid changes = record {
     leaves = append_leaves bytes whole laid changes;
     lone = subst (λ (h' : History). IsLone h'.now stamp (laid_file q 0 false)) (sym changes.ok)
         (subst (λ (b : List ℕ). IsLone (after_append stamp (take (length bytes) bytes) h.now) stamp (record { bytes = b; synced = 0; settled = false })) (take_all (length bytes) bytes (omega arith) ∙ whole)
-          (lone_append h.now stamp fresh_file (take (length bytes) bytes) laid.lone));
+        (lone_append h.now stamp fresh_file (take (length bytes) bytes) laid.lone));
     untold = ap (λ (h' : History). h'.now.told) changes.ok ∙ laid.untold;
   }
 
@@ -62,21 +62,21 @@ module _ (q : List SessionCommand) (stamp : ℕ) (tabs : AreTabs q) (old : Histo
   pub sync_leaves : {T : Type 0} {h new : History} {r : Result T DiskError} → IsLaid h (laid_file q 0 false) → Changes h new r (length (bytes_at stamp h.now)) (after_sync stamp) → Leaves old new (IsGood start q)
   sync_leaves {h = h} laid changes =
       Leaves-trans laid.leaves (Leaves-call (IsGood start q) changes (good h.now _ _ laid.lone laid.untold all_of)
-        (λ n _. good (after_sync stamp n h.now) _ (length (file_of q)) (lone_sync h.now stamp (laid_file q 0 false) n laid.lone) laid.untold all_of))
+      (λ n _. good (after_sync stamp n h.now) _ (length (file_of q)) (lone_sync h.now stamp (laid_file q 0 false) n laid.lone) laid.untold all_of))
 
   pub synced : {T : Type 0} {h new : History} {x : T} → IsLaid h (laid_file q 0 false) → Changes h new (Ok x) (length (bytes_at stamp h.now)) (after_sync stamp) → IsLaid new (laid_file q (length (file_of q)) false)
   synced {h = h} laid changes = record {
     leaves = sync_leaves laid changes;
     lone = subst (λ (h' : History). IsLone h'.now stamp (laid_file q (length (file_of q)) false)) (sym changes.ok)
         (subst (λ (n : ℕ). IsLone (after_sync stamp (length (bytes_at stamp h.now)) h.now) stamp (laid_file q n false)) (omega (arith, ap (λ (f : Option Standing). length (bytes_of f)) laid.lone.stands))
-          (lone_sync h.now stamp (laid_file q 0 false) (length (bytes_at stamp h.now)) laid.lone));
+        (lone_sync h.now stamp (laid_file q 0 false) (length (bytes_at stamp h.now)) laid.lone));
     untold = ap (λ (h' : History). h'.now.told) changes.ok ∙ laid.untold;
   }
 
   pub settle_leaves : {T : Type 0} {h new : History} {r : Result T DiskError} → IsLaid h (laid_file q (length (file_of q)) false) → Changes h new r 0 (λ _. after_settle) → Leaves old new (IsGood start q)
   settle_leaves {h = h} laid changes =
       Leaves-trans laid.leaves (Leaves-call (IsGood start q) changes (good h.now _ _ laid.lone laid.untold all_of)
-        (λ n _. good (after_settle h.now) _ (length (file_of q)) (lone_settle h.now stamp (laid_file q (length (file_of q)) false) laid.lone) laid.untold all_of))
+      (λ n _. good (after_settle h.now) _ (length (file_of q)) (lone_settle h.now stamp (laid_file q (length (file_of q)) false) laid.lone) laid.untold all_of))
 
   pub settled : {T : Type 0} {h new : History} {x : T} → IsLaid h (laid_file q (length (file_of q)) false) → Changes h new (Ok x) 0 (λ _. after_settle) → IsLaid new (laid_file q (length (file_of q)) true)
   settled {h = h} laid changes = record {
@@ -88,7 +88,7 @@ module _ (q : List SessionCommand) (stamp : ℕ) (tabs : AreTabs q) (old : Histo
   pub tell_leaves : {T : Type 0} {h new : History} {r : Result T DiskError} (n : ℕ) → n ≡ length q → IsLaid h (laid_file q (length (file_of q)) true) → Changes h new r 0 (λ _. after_tell n) → Leaves old new (IsGood start q)
   tell_leaves {h = h} n all laid changes =
       Leaves-trans laid.leaves (Leaves-call (IsGood start q) changes (good h.now _ _ laid.lone laid.untold all_of)
-        (λ _ _. safe_good q (after_tell n h.now) stamp (laid_file q (length (file_of q)) true) tabs (lone_tell h.now stamp n _ laid.lone) refl refl refl (omega (arith, all))))
+      (λ _ _. safe_good q (after_tell n h.now) stamp (laid_file q (length (file_of q)) true) tabs (lone_tell h.now stamp n _ laid.lone) refl refl refl (omega (arith, all))))
 
   -- the last moment: the file stands safe and alone, and all commands are told
   pub record IsTold (m : Moment) : Type 0 where

@@ -1,15 +1,15 @@
 -- A disk on which one file is laid: what stands after each call, and that a crash leaves only good pairs.
-use Rattle.std.proofs.Common.{◌≡◌, ◌≢◌, ◌⊎◌, ℕ, zero, suc, ◌+◌, ◌-◌, ◌<◌, ◌≤◌, Bool, true, false, cond, eqb, max, List, [], ◌∷◌, ◌++◌, length, take, Option, Some, None, option_map, Contains, refl, sym, ap, ◌∙◌, subst, inl, inr, arith}
+use Rattle.std.proofs.Common.{◌≡◌, ◌≢◌, ◌⊎◌, ℕ, ◌≤◌, true, false, eqb, max, List, [], ◌++◌, length, take, Option, Some, None, option_map, Contains, refl, ap, ◌∙◌, subst, inl, inr, arith}
 use Rattle.std.proofs.lemmas.Bool.Decides.{nat_tests}
-use Rattle.std.proofs.lemmas.List.{length-take, take_all, take-take}
+use Rattle.std.proofs.lemmas.List.{length-take, take-take}
 use Rattle.session_commands.specs.declared.command.SessionCommand.{SessionCommand}
-use Rattle.session_disk.specs.Moments.{Standing, Removed, Moment, with_file, after_create, after_append, after_sync, after_settle, after_tell, settled_file, bytes_at, IsAtRest}
-use Rattle.session_disk.specs.Images.{Image, IsCut, MayGo, MayLeave, IsOfStanding, IsOfRemoved, IsImage, OnlyLeaves, as_it_reads}
-use Rattle.session_drive.specs.Replay.{start, fold}
-use Rattle.session_drive.specs.Recovery.{IsGood, Recovers}
+use Rattle.session_disk.specs.Moments.{Standing, Removed, Moment, with_file, after_create, after_append, after_sync, after_settle, after_tell, settled_file}
+use Rattle.session_disk.specs.Images.{Image, IsCut, MayGo, MayLeave, IsImage, OnlyLeaves}
+use Rattle.session_drive.specs.Replay.{start}
+use Rattle.session_drive.specs.Recovery.{IsGood}
 use Rattle.session_drive.specs.SessionFile.{file_of}
 use Rattle.session_drive.specs.Run.{IsBare}
-use Rattle.session_drive.proofs.RecoveryLaws.{AreTabs, IsLoneImage, ReadsFront, recovers_none, reads_front, front_of_file}
+use Rattle.session_drive.proofs.RecoveryLaws.{AreTabs, IsLoneImage, recovers_none, reads_front, front_of_file}
 
 -- one file stands and nothing was removed
 pub record IsLone (m : Moment) (stamp : ℕ) (file : Standing) : Type 0 where

@@ -1,12 +1,12 @@
 -- What is said before the last line and the last line together, whole or cut short by a failing sink.
-use Rattle.std.proofs.Common.{◌≡◌, ◌≢◌, ◌⊎◌, ℕ, ◌+◌, ◌≤◌, true, false, List, [], ◌∷◌, ◌++◌, length, take, Option, Some, None, IfSome, refl, sym, ap, ◌∙◌, subst, inl, inr, append_assoc, arith}
+use Rattle.std.proofs.Common.{◌≡◌, ◌≢◌, ℕ, ◌+◌, ◌≤◌, true, List, [], ◌++◌, length, Option, Some, None, IfSome, refl, sym, ap, ◌∙◌, subst, inl, inr, append_assoc, arith}
 use Rattle.std.proofs.Math.Seq.{take-append-add}
 use Rattle.std.proofs.lemmas.List.{append-nil, length-append, take-append-le, take_all}
 use Rattle.session_drive.specs.declared.status.Status.{Status}
 use Rattle.session_drive.specs.declared.status.Status.TheVariants.{Done, Usage, Refused, NotEmpty, Disk, Read, Write, TooLong, Memory}
 use Rattle.session_drive.specs.Words.{is_run}
-use Rattle.session_drive.specs.Outcome.{start_line, last_line, answer_to, unsaid, IsFront, IsSaid}
-use Rattle.session_drive.specs.Run.{Found, Faults, Cause, Says, SaysCut, SaysFirst, Prints, IsBare}
+use Rattle.session_drive.specs.Outcome.{start_line, last_line, answer_to, unsaid, IsFront}
+use Rattle.session_drive.specs.Run.{Faults, Cause, Says, SaysCut, SaysFirst, Prints, IsBare}
 use Rattle.session_drive.specs.Steps.{WritesLine}
 use Rattle.session_drive.specs.Recovery.{IsGood}
 use Rattle.session_drive.specs.Replay.{start}
@@ -73,8 +73,11 @@ module _ (words : List (List ℕ)) (text : Option (List ℕ)) (failed : Type 0) 
 
   cut_last : (status : Status) (first said : List ℕ) → is_run words ≡ true → IfSome text (λ all. status ≡ answer_to all) → first ≡ start_line → IsFront said (last_line status) → SaysCut words text (first ++ said)
   cut_last status first said run told e h =
-      inr (run, if_some_map (λ all. status ≡ answer_to all) (λ all. IsFront (first ++ said) (start_line ++ last_line (answer_to all))) text
-        (λ all is. behind first start_line said (last_line (answer_to all)) e (subst (λ (s : Status). IsFront said (last_line s)) is h)) told)
+      inr (
+        run,
+        if_some_map (λ all. status ≡ answer_to all) (λ all. IsFront (first ++ said) (start_line ++ last_line (answer_to all))) text
+            (λ all is. behind first start_line said (last_line (answer_to all)) e (subst (λ (s : Status). IsFront said (last_line s)) is h)) told,
+      )
 
   -- the last line was cut short
   pub says_cut : (newest : Option ℕ → Type 0) (before after : Faults) (status : Status) (first said : List ℕ) →
@@ -99,14 +102,16 @@ module _ (words : List (List ℕ)) (text : Option (List ℕ)) (failed : Type 0) 
   says_all newest before after None None new status answer cause h run w = w
   says_all newest before after None (Some middle) new status answer cause h run w = absurd cc
   says_all newest before after (Some old) None new status answer cause h run w = absurd (let e = h.1 in cc)
-  says_all newest before after (Some old) (Some middle) new status answer cause (first, is, says) run (inl (same, whole)) =
-      (first ++ last_line status,
-        whole ∙ ap (λ (x : List ℕ). Some (x ++ last_line status)) (let e : middle ≡ old ++ first = cc in e) ∙ ap Some (append_assoc old first (last_line status)),
-        rw same (says_whole status first says run))
-  says_all newest before after (Some old) (Some middle) new status answer cause (first, is, says) run (inr (other, f, said, cut, part)) =
-      (first ++ said,
-        part ∙ ap (λ (x : List ℕ). Some (x ++ said)) (let e : middle ≡ old ++ first = cc in e) ∙ ap Some (append_assoc old first said),
-        rw other (says_cut newest before after status first said cause says run f cut))
+  says_all newest before after (Some old) (Some middle) new status answer cause (first, is, says) run (inl (same, whole)) = (
+    first ++ last_line status,
+    whole ∙ ap (λ (x : List ℕ). Some (x ++ last_line status)) (let e : middle ≡ old ++ first = cc in e) ∙ ap Some (append_assoc old first (last_line status)),
+    rw same (says_whole status first says run),
+  )
+  says_all newest before after (Some old) (Some middle) new status answer cause (first, is, says) run (inr (other, f, said, cut, part)) = (
+    first ++ said,
+    part ∙ ap (λ (x : List ℕ). Some (x ++ said)) (let e : middle ≡ old ++ first = cc in e) ∙ ap Some (append_assoc old first said),
+    rw other (says_cut newest before after status first said cause says run f cut),
+  )
 
 -- a count that rose later rose since an earlier moment
 pub Rose-since : (before middle now : ℕ) → before ≤ middle → Rose middle now → Rose before now

@@ -1,6 +1,6 @@
 -- A session file with commands, cut anywhere, reads to the state after some front of the commands: the marker
 -- stands before them, so what is lawful has it, and a file that is cut before it reads as no file.
-use Rattle.std.proofs.Common.{◌≡◌, ◌≢◌, ℕ, ℤ, zero, suc, ◌+◌, ◌-◌, ◌<◌, ◌≤◌, true, List, [], ◌∷◌, ◌++◌, length, take, drop, map, Option, Some, None, Ok, Contains, refl, sym, ap, ◌∙◌, inl, inr, append_assoc, arith}
+use Rattle.std.proofs.Common.{◌≡◌, ◌≢◌, ℕ, zero, suc, ◌+◌, ◌-◌, ◌<◌, ◌≤◌, List, [], ◌∷◌, ◌++◌, length, take, drop, map, Option, Some, None, Ok, Contains, refl, sym, ap, ◌∙◌, inl, inr, arith}
 use Rattle.std.specs.Prelude.{FitsSigned}
 use Rattle.std.specs.Int.{w32}
 use Rattle.std.specs.List.{AllByRecursion, flat_map}
@@ -13,7 +13,7 @@ use Rattle.snss_frames.specs.Reading.{Reads}
 use Rattle.snss_frames.specs.declared.header.Version.{Version}
 use Rattle.snss_frames.specs.declared.header.Version.TheVariants.{One, Three}
 use Rattle.snss_frames.proofs.HeaderLaws.{header_of-header, length-header, take-header, drop-header}
-use Rattle.snss_frames.proofs.ReadingLaws.{CutReading, reading_cut, whole_cut, one_reading}
+use Rattle.snss_frames.proofs.ReadingLaws.{reading_cut, whole_cut, one_reading}
 use Rattle.session_commands.specs.Faults.{fault_of}
 use Rattle.session_commands.specs.Table.{Payload, id_of, payload_of}
 use Rattle.session_commands.specs.declared.raw.RawCommand.{RawCommand}
@@ -21,9 +21,9 @@ use Rattle.session_commands.specs.declared.command.SessionCommand.{SessionComman
 use Rattle.session_commands.specs.declared.command.SessionCommand.TheVariants.{TabWindow, Raw}
 use Rattle.session_commands.proofs.FixedLaws.{reads_back, length-payload}
 use Rattle.session_disk.specs.Images.{Image}
-use Rattle.session_drive.specs.Replay.{State, start, step, fold}
-use Rattle.session_drive.specs.Recovery.{IsFile, IsLawful, IsChosen, IsMarked, NoneLawful, AreCommands, Recovers}
-use Rattle.session_drive.specs.SessionFile.{frame_of, frames_bytes, file_of}
+use Rattle.session_drive.specs.Replay.{start, fold}
+use Rattle.session_drive.specs.Recovery.{IsLawful, IsMarked, AreCommands, Recovers}
+use Rattle.session_drive.specs.SessionFile.{frame_of, file_of}
 
 -- the commands put tabs into windows, with ids in their range
 abbrev pub IsTab : SessionCommand → Type 0
@@ -144,8 +144,8 @@ pub recovers_none : (image : Image) (stamp : ℕ) → IsLoneImage image stamp No
 recovers_none image stamp lone =
     inr (
       (λ s bytes fs stands lawful.
-        let other : s ≢ stamp = λ e. (let there = ap image (sym e) in let here = lone.here in cc) in
-        let none = lone.others s other in cc),
+          let other : s ≢ stamp = λ e. (let there = ap image (sym e) in let here = lone.here in cc) in
+          let none = lone.others s other in cc),
       refl,
     )
 
@@ -160,17 +160,20 @@ recovers_unlawful : (image : Image) (stamp : ℕ) (q : List SessionCommand) (n :
 recovers_unlawful image stamp q n lone refused =
     inr (
       (λ s bytes fs stands lawful.
-        let other : s ≢ stamp = λ e. (
+          let other : s ≢ stamp = λ e. (
           let there = ap image (sym e) in let here = lone.here in
           let same : bytes ≡ take n (file_of q) = cc in
           refused fs (rw same at lawful)) in
-        let none = lone.others s other in cc),
+          let none = lone.others s other in cc),
       refl,
     )
 
 recovers_lawful : (image : Image) (stamp : ℕ) (q : List SessionCommand) (n i : ℕ) → AreTabs q → IsLoneImage image stamp (Some (take n (file_of q))) → IsLawful (take n (file_of q)) (take (suc i) (all_frames q)) → Recovers image (fold start (take i q))
 recovers_lawful image stamp q n i tabs lone lawful =
-    inl (stamp, take (suc i) (all_frames q), Raw marker_command ∷ take i q,
+    inl (
+      stamp,
+      take (suc i) (all_frames q),
+      Raw marker_command ∷ take i q,
       record {
         bytes = take n (file_of q);
         stands = lone.here;
@@ -178,7 +181,8 @@ recovers_lawful image stamp q n i tabs lone lawful =
         newest = λ s other others later stands lawful'. (let none = lone.others s (λ e. omega arith) in cc);
       },
       (marker_payload, frames_read q tabs i),
-      refl)
+      refl,
+    )
 
 pub reads_front : (image : Image) (stamp : ℕ) (q : List SessionCommand) (n : ℕ) → AreTabs q → IsLoneImage image stamp (Some (take n (file_of q))) → Front q n → ReadsFront image q n
 reads_front image stamp q n tabs lone (none refused short) = record {

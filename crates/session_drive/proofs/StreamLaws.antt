@@ -1,12 +1,12 @@
 -- Bytes that are written whole or read to their end, piece by piece.
-use Rattle.std.proofs.Common.{◌≡◌, ℕ, ◌+◌, ◌<◌, ◌≤◌, Bool, true, false, List, [], ◌∷◌, ◌++◌, length, take, drop, Option, Some, None, Result, Ok, Err, Vec, Global, append_assoc, refl, sym, ap, ◌∙◌, arith}
+use Rattle.std.proofs.Common.{◌≡◌, ℕ, ◌<◌, Bool, false, List, [], ◌++◌, length, take, drop, Option, Some, None, Ok, Err, Vec, Global, append_assoc, refl, sym, ap, ◌∙◌, arith}
 use Rattle.std.proofs.lemmas.List.{append-nil, length-append, take-append-drop, take_at}
 use Rattle.session_disk.specs.Streams.{AddsTo}
 use Rattle.session_disk.specs.declared.failure.Failed as failure
 use Rattle.session_drive.specs.declared.script.ScriptFault.{ScriptFault}
 use Rattle.session_drive.specs.declared.script.ScriptFault.TheVariants.{Failed, TooLong, Memory}
 use Rattle.session_drive.specs.Written.{WritesWhole}
-use Rattle.session_drive.specs.Script.{script_max, ReadsPiece, MovesPiece, ReadsAll}
+use Rattle.session_drive.specs.Script.{script_max, ReadsPiece, ReadsAll}
 
 -- a front of the bytes was written, and this rest is left
 abbrev pub WrittenSoFar : Option (List ℕ) → Option (List ℕ) → List ℕ → List ℕ → Type 0

@@ -1,16 +1,13 @@
 -- What the fields of a line say, and that a line says it in one way.
-use Rattle.std.proofs.Common.{◌≡◌, ℕ, ℤ, pos, ◌<◌, ◌≤◌, ◌^◌, Bool, not, true, false, cond, List, [], ◌∷◌, ◌++◌, length, Option, Some, None, IfSome, IfNone, refl, sym, ap, ◌∙◌, arith}
+use Rattle.std.proofs.Common.{◌≡◌, ℕ, ℤ, ◌<◌, ◌≤◌, ◌^◌, Bool, not, true, false, cond, List, [], ◌∷◌, Option, Some, None, refl, sym, ap, ◌∙◌, arith}
 use Rattle.std.specs.Str.{bytes_eq}
-use Rattle.std.specs.Prelude.{codes, option_map, option_and_then}
-use Rattle.std.specs.Fmt.{decimal}
+use Rattle.std.specs.Prelude.{codes, option_and_then}
 use Rattle.std.specs.Int.{w32, cast_signed as to_z}
 use Rattle.std.proofs.lemmas.Int.{to_z_pos}
 use Rattle.std.proofs.lemmas.Bool.Decides.{nat_tests}
 use Rattle.decimals.specs.Decimal.{number_of}
-use Rattle.decimals.proofs.DecimalLaws.{number_of-decimal, decimal-number_of}
-use Rattle.session_drive.specs.declared.tab_line.TabLine.{TabLine}
-use Rattle.session_drive.specs.Lines.{fields, pieces, Lacks, CutsAt}
-use Rattle.session_drive.specs.TabLine.{id_from, id_of_field, both, tab_of, tab_of_fields, IsTabLine}
+use Rattle.session_drive.specs.Lines.{fields, Lacks, CutsAt}
+use Rattle.session_drive.specs.TabLine.{id_from, id_of_field, both, tab_of, tab_of_fields}
 use Rattle.session_drive.proofs.LineLaws.{pieces_some, fields_first, fields_only}
 
 -- a line of one field, of two, of more than three

@@ -1,14 +1,14 @@
 -- What a told file of commands is to a reader of the disk, and that the commands of a script are tabs.
-use Rattle.std.proofs.Common.{◌≡◌, ◌≢◌, ℕ, ℤ, pos, ◌+◌, ◌<◌, ◌≤◌, Bool, true, false, eqb, List, [], ◌∷◌, length, take, Option, Some, None, option_map, IsSome, Result, Ok, Err, OnOk, refl, sym, ap, ◌∙◌, subst, inl, inr, arith}
+use Rattle.std.proofs.Common.{◌≡◌, ℕ, true, eqb, List, [], ◌∷◌, length, take, Option, Some, None, option_map, IsSome, Result, Ok, Err, OnOk, refl, sym, ap, ◌∙◌, subst, inl, inr, arith}
 use Rattle.std.proofs.lemmas.Bool.{cases_Bool}
 use Rattle.std.proofs.lemmas.Bool.Decides.{nat_tests}
 use Rattle.std.proofs.lemmas.List.{take_all}
 use Rattle.std.proofs.lemmas.Int.{ints}
 use Rattle.session_commands.specs.declared.command.SessionCommand.{SessionCommand}
-use Rattle.session_disk.specs.Moments.{Standing, Moment, after_tell, IsAtRest, IsNewestBelow}
+use Rattle.session_disk.specs.Moments.{Standing, Moment, after_tell, IsNewestBelow}
 use Rattle.session_disk.specs.declared.failure.DiskError.{DiskError}
 use Rattle.session_disk.specs.Histories.{History, Changes}
-use Rattle.session_disk.specs.Images.{Image, as_it_reads}
+use Rattle.session_disk.specs.Images.{as_it_reads}
 use Rattle.session_drive.specs.declared.tab_line.TabLine.{TabLine}
 use Rattle.session_drive.specs.Replay.{start, fold}
 use Rattle.session_drive.specs.Recovery.{Recovers}
@@ -18,7 +18,7 @@ use Rattle.session_drive.specs.TabLine.{tab_of, command_of, issued, issued_by, i
 use Rattle.session_drive.specs.Run.{IsBare, HoldsCommands}
 use Rattle.session_drive.proofs.RecoveryLaws.{IsTab, AreTabs, IsLoneImage, reads_front, front_of_file}
 use Rattle.session_drive.proofs.MomentLaws.{IsLone}
-use Rattle.session_drive.proofs.LayingLaws.{laid_file, IsLaid, IsTold, told_all}
+use Rattle.session_drive.proofs.LayingLaws.{laid_file, IsLaid, told_all}
 use Rattle.session_drive.proofs.TabLineReading.{said_by_line}
 
 said_tab : (line : List ℕ) (said : TabLine) → tab_of line ≡ Some said → IsTab (command_of said)

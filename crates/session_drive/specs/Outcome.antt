@@ -1,5 +1,5 @@
 -- The answers of a run, and what it prints.
-use Rattle.std.specs.Prelude.{◌≡◌, ◌⊎◌, ℕ, ◌≤◌, List, [], ◌∷◌, ◌++◌, length, take, Option, None, Some, codes}
+use Rattle.std.specs.Prelude.{◌≡◌, ◌⊎◌, ℕ, ◌≤◌, List, [], ◌++◌, length, take, Option, None, Some, codes}
 use Rattle.std.specs.Fmt.{decimal}
 use Rattle.session_disk.specs.declared.family.Family.{Family}
 use Rattle.session_disk.specs.declared.family.Family.TheVariants.{Session, Tabs}

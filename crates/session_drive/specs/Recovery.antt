@@ -1,6 +1,6 @@
 -- What files read to after a crash: the newest lawful one, its frames as commands, their state. A file is lawful
 -- where its version is 1, or its version is 3 and the marker is among its whole frames (this profile's rule).
-use Rattle.std.specs.Prelude.{◌≡◌, ◌⊎◌, ℕ, ◌<◌, ◌≤◌, List, [], ◌∷◌, length, take, drop, Option, Some, Result, Ok, Contains}
+use Rattle.std.specs.Prelude.{◌≡◌, ◌⊎◌, ℕ, ◌<◌, ◌≤◌, List, [], ◌∷◌, length, take, drop, Some, Ok, Contains}
 use Rattle.snss_frames.specs.Header.{header_of}
 use Rattle.snss_frames.specs.Frame.{Frame, marker}
 use Rattle.snss_frames.specs.Reading.{Reads}

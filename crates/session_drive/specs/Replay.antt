@@ -1,6 +1,6 @@
 -- What the commands of a session make: tabs and windows by rising id. A window or tab that a command names is
 -- made where it isn't there, unless its list is full; then the command changes nothing.
-use Rattle.std.specs.Prelude.{ℕ, ℤ, Bool, ◌&&◌, nat_le, List, [], ◌∷◌, length, Option, Some, None, if◌then◌else◌}
+use Rattle.std.specs.Prelude.{ℕ, ℤ, Bool, ◌&&◌, nat_le, List, [], ◌∷◌, length, Option, Some, if◌then◌else◌}
 use Rattle.std.specs.Ordering.{int_cmp, match_ordering}
 use Rattle.session_commands.specs.declared.command.SessionCommand.{SessionCommand}
 use Rattle.session_commands.specs.declared.command.SessionCommand.TheVariants.{TabWindow, Raw}

@@ -1,7 +1,7 @@
 -- What a run finds, why it answers as it does, what it prints and what it leaves on the session's disk.
-use Rattle.std.specs.Prelude.{◌≡◌, ◌⊎◌, ℕ, ◌+◌, ◌<◌, ◌≤◌, Bool, true, false, List, [], ◌∷◌, ◌++◌, length, Option, None, Some, IfSome, Result, Ok, Err}
+use Rattle.std.specs.Prelude.{◌≡◌, ◌⊎◌, ℕ, ◌+◌, ◌<◌, ◌≤◌, true, false, List, [], ◌++◌, length, Option, None, Some, IfSome}
 use Rattle.session_disk.specs.Causes.{Rose}
-use Rattle.session_disk.specs.Moments.{Moment, Standing, IsNewestBelow, IsAtRest}
+use Rattle.session_disk.specs.Moments.{Moment, Standing, IsAtRest}
 use Rattle.session_disk.specs.Images.{as_it_reads}
 use Rattle.session_disk.specs.declared.family.Family.TheVariants as family
 use Rattle.session_drive.specs.declared.status.Status.{Status}

@@ -3,7 +3,7 @@ use Rattle.std.specs.Prelude.{◌≡◌, ℕ, ◌+◌, ◌<◌, ◌≤◌, Bool,
 use Rattle.std.specs.Global.{Global}
 use Rattle.session_disk.specs.Causes.{Rose}
 use Rattle.session_drive.specs.declared.script.ScriptFault.{ScriptFault}
-use Rattle.session_drive.specs.declared.script.ScriptFault.TheVariants.{Failed, TooLong, Memory}
+use Rattle.session_drive.specs.declared.script.ScriptFault.TheVariants.{Failed, TooLong}
 
 -- the most bytes of a script
 abbrev pub script_max : ℕ

@@ -77,7 +77,11 @@ fn begin(alloc: Global) -> Result<Vec<u8>, AllocError>
 }
 
 // Appends the frame of a command, whose payload passes through a buffer that is used again.
-fn put_command(command: &SessionCommand, payload: &mut Vec<u8>, out: &mut Vec<u8>) -> Result<(), AllocError>
+fn put_command(
+    command: &SessionCommand,
+    payload: &mut Vec<u8>,
+    out: &mut Vec<u8>,
+) -> Result<(), AllocError>
     ensures { OnOk result (out.new.items ≡ out.old.items ++ frame_bytes (frame_of command.now)) }
 {
     payload.clear();

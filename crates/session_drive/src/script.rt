@@ -58,7 +58,11 @@ pub fn read_script<S: Source>(alloc: Global, source: &mut S) -> Result<Vec<u8>, 
 }
 
 // Moves some bytes of the source to the end of the text, and answers whether there were any.
-fn read_piece<S: Source>(source: &mut S, buffer: &mut [u8], text: &mut Vec<u8>) -> Result<bool, ScriptFault>
+fn read_piece<S: Source>(
+    source: &mut S,
+    buffer: &mut [u8],
+    text: &mut Vec<u8>,
+) -> Result<bool, ScriptFault>
     requires { 0 < length buffer.old }
     ensures piece { IfOk result (λ more. ReadsPiece (S.left source.old) (S.left source.new) text.old.items text.new.items more) }
     ensures grown { IfOk result (λ more. Lengthens text.old.items text.new.items (length buffer.old) more) }

@@ -25,7 +25,13 @@ fn list_of(rt: HostRuntime, words: &[&str]) -> Result<Vec<String>, AllocError> {
     Ok(list)
 }
 
-fn run_on(rt: HostRuntime, script: &[u8], session: MemoryDisk, reads: &[u64], writes: &[u64]) -> Result<Run, AllocError> {
+fn run_on(
+    rt: HostRuntime,
+    script: &[u8],
+    session: MemoryDisk,
+    reads: &[u64],
+    writes: &[u64],
+) -> Result<Run, AllocError> {
     let alloc = rt.alloc();
     let words = list_of(rt, &["run", "--inline", "d"])?;
     let mut source = MemorySource::new(alloc, script, reads)?;
@@ -41,13 +47,23 @@ fn run_on(rt: HostRuntime, script: &[u8], session: MemoryDisk, reads: &[u64], wr
         &mut FixedClock::new(100),
     );
     let said = sink.written().to_vec(alloc)?;
-    Ok(Run { status, said, session })
+    Ok(Run {
+        status,
+        said,
+        session,
+    })
 }
 
 #[test]
 fn a_tab_makes_a_synced_file_that_is_told(rt: HostRuntime) -> Result<(), Fail> {
     let run = run_on(rt, b"tab 1 2\n", MemoryDisk::empty(rt.alloc())?, &[], &[])?;
-    assert_eq!(rt; run.status, Status::Done { session: 1, tabs: 0 });
+    assert_eq!(rt;
+        run.status,
+        Status::Done {
+            session: 1,
+            tabs: 0
+        }
+    );
     assert_eq!(rt; run.said.as_slice(), b"start 0 0 0\ndone 1 0\n".as_slice());
     let files = run.session.files();
     assert_eq!(rt; files.len(), 1);
@@ -61,7 +77,13 @@ fn a_tab_makes_a_synced_file_that_is_told(rt: HostRuntime) -> Result<(), Fail> {
 #[test]
 fn an_empty_script_makes_a_file_without_commands(rt: HostRuntime) -> Result<(), Fail> {
     let run = run_on(rt, b"", MemoryDisk::empty(rt.alloc())?, &[], &[])?;
-    assert_eq!(rt; run.status, Status::Done { session: 0, tabs: 0 });
+    assert_eq!(rt;
+        run.status,
+        Status::Done {
+            session: 0,
+            tabs: 0
+        }
+    );
     let files = run.session.files();
     assert_eq!(rt; files.len(), 1);
     assert_eq!(rt; files[0].bytes.as_slice(), &FIRST_FILE[..11]);
@@ -110,12 +132,36 @@ fn a_disk_with_a_file_is_left_as_it_is(rt: HostRuntime) -> Result<(), Fail> {
 #[test]
 fn failing_streams_are_named(rt: HostRuntime) -> Result<(), Fail> {
     for (reads, writes, status, said, files) in [
-        ([1].as_slice(), [].as_slice(), Status::Read, "fault read\n", 0),
-        ([2].as_slice(), [].as_slice(), Status::Read, "fault read\n", 0),
+        (
+            [1].as_slice(),
+            [].as_slice(),
+            Status::Read,
+            "fault read\n",
+            0,
+        ),
+        (
+            [2].as_slice(),
+            [].as_slice(),
+            Status::Read,
+            "fault read\n",
+            0,
+        ),
         ([].as_slice(), [1].as_slice(), Status::Write, "", 0),
-        ([].as_slice(), [2].as_slice(), Status::Write, "start 0 0 0\n", 1),
+        (
+            [].as_slice(),
+            [2].as_slice(),
+            Status::Write,
+            "start 0 0 0\n",
+            1,
+        ),
     ] {
-        let run = run_on(rt, b"tab 1 2", MemoryDisk::empty(rt.alloc())?, reads, writes)?;
+        let run = run_on(
+            rt,
+            b"tab 1 2",
+            MemoryDisk::empty(rt.alloc())?,
+            reads,
+            writes,
+        )?;
         assert_eq!(rt; run.status, status);
         assert_eq!(rt; run.said.as_slice(), said.as_bytes());
         assert_eq!(rt; run.session.files().len(), files);
@@ -172,7 +218,13 @@ fn a_real_folder_holds_the_same_bytes(rt: HostRuntime) -> Result<(), Fail> {
         FolderDisk::new(rt, folder, Family::Tabs)?,
         &mut FixedClock::new(100),
     );
-    assert_eq!(rt; status, Status::Done { session: 1, tabs: 0 });
+    assert_eq!(rt;
+        status,
+        Status::Done {
+            session: 1,
+            tabs: 0
+        }
+    );
     let name = format!(in alloc; "{folder}/Session_100")?;
     let bytes = fs::read(&rt, name.as_str())?;
     assert_eq!(rt; bytes.as_slice(), FIRST_FILE.as_slice());
@@ -184,7 +236,13 @@ fn a_real_folder_holds_the_same_bytes(rt: HostRuntime) -> Result<(), Fail> {
 #[test]
 fn each_answer_has_its_code(rt: HostRuntime) {
     for (status, code) in [
-        (Status::Done { session: 1, tabs: 0 }, 0),
+        (
+            Status::Done {
+                session: 1,
+                tabs: 0,
+            },
+            0,
+        ),
         (Status::Usage, 2),
         (Status::Disk(Family::Session), 4),
         (Status::Memory, 8),

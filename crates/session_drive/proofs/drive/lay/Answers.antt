@@ -1,7 +1,5 @@
 use Rattle.std.proofs.Common.{◌∙◌}
 use Rattle.session_drive.specs.TabLine.{issued}
-use Rattle.session_drive.specs.SessionFile.{IsFileOf}
-use Rattle.session_drive.specs.Run.{IsBare}
 use Rattle.session_drive.proofs.LayingLaws.{create_leaves, created, append_leaves, appended, sync_leaves, synced, settle_leaves, settled, tell_leaves}
 use Rattle.session_drive.proofs.ToldLaws.{issued_tabs, told_on_ok}
 use Rattle.session_drive.proofs.drive.lay.Goals as goal
