@@ -1,1 +1,3 @@
-pub mod FixedLaws
+pub mod FieldLaws
+pub mod ShapeLaws
+pub mod TableLaws

@@ -1,40 +1,80 @@
--- The table of session commands: each command's id and the fields of its payload. The ids and their payloads
--- are this profile's, after Chromium's components/sessions/core/session_service_commands.cc.
-use Rattle.std.specs.Prelude.{◌≡◌, ℕ, List, [], ◌∷◌, Option, Some, None, FitsSigned}
-use Rattle.std.specs.Int.{w32}
-use Rattle.pickle_cells.specs.Layout.{Field, Int, AreFields, fields_bytes}
+-- The table of session commands: each command's id and the layout of its payload. The ids and the layouts are
+-- this profile's, after Chromium's components/sessions/core/session_service_commands.cc.
+use Rattle.std.specs.Prelude.{◌≡◌, ℕ, List, [], ◌∷◌, is_some, true, Option, Some, None}
+use Rattle.pickle_cells.specs.Layout.{Int, Int64, Uint64, Flag, Free}
+use Rattle.session_commands.specs.Layouts.{Layout, Fixed, IsLaidOut, FitsLayout, IsWhole, layout_bytes}
+use Rattle.session_commands.specs.Faults.{fault_of}
+use Rattle.session_commands.specs.declared.raw.RawCommand.{RawCommand}
 use Rattle.session_commands.specs.declared.command.SessionCommand.{SessionCommand}
-use Rattle.session_commands.specs.declared.command.SessionCommand.TheVariants.{TabWindow, Raw}
+use Rattle.session_commands.specs.declared.command.SessionCommand.TheVariants.{TabWindow, TabIndex, PrunedBack, SelectNavigation, SelectTab, WindowKind, PrunedFront, Pinned, WindowBounds, TabClosed, WindowClosed, ActiveWindow, LastActive, Pruned, TabGroup, AllWorkspaces, Raw}
 
--- the numbers are in the ranges of their types, as those of every value are
-abbrev pub IsInRange : SessionCommand → Type 0
-IsInRange (TabWindow window tab) = FitsSigned w32 window × FitsSigned w32 tab
-IsInRange (Raw raw) = Unit {0}
+-- a row says an id and a layout; a raw command is kept without one
+pub data Row : Type 0 where
+  Known : ℕ → Layout → Row
+  Kept : RawCommand → Row
 
-pub record Row : Type 0 where
-  pub id : ℕ
-  pub fields : List Field
+abbrev pub row : SessionCommand → Row
+row (TabWindow window tab) = Known 0 (Fixed (Int window ∷ Int tab ∷ []))
+row (TabIndex tab index) = Known 2 (Fixed (Int tab ∷ Int index ∷ []))
+row (PrunedBack tab index) = Known 5 (Fixed (Int tab ∷ Int index ∷ []))
+row (SelectNavigation tab index) = Known 7 (Fixed (Int tab ∷ Int index ∷ []))
+row (SelectTab window index) = Known 8 (Fixed (Int window ∷ Int index ∷ []))
+row (WindowKind window kind) = Known 9 (Fixed (Int window ∷ Int kind ∷ []))
+row (PrunedFront tab count) = Known 11 (Fixed (Int tab ∷ Int count ∷ []))
+row (Pinned tab pinned) = Known 12 (Fixed (Int tab ∷ Flag pinned ∷ Free 3 ∷ []))
+row (WindowBounds window b) =
+    Known 14 (Fixed (Int window ∷ Int b.x ∷ Int b.y ∷ Int b.width ∷ Int b.height ∷ Int b.show ∷ []))
+row (TabClosed tab time) = Known 16 (Fixed (Int tab ∷ Free 4 ∷ Int64 time ∷ []))
+row (WindowClosed window time) = Known 17 (Fixed (Int window ∷ Free 4 ∷ Int64 time ∷ []))
+row (ActiveWindow window) = Known 20 (Fixed (Int window ∷ []))
+row (LastActive tab time) = Known 21 (Fixed (Int tab ∷ Free 4 ∷ Int64 time ∷ []))
+row (Pruned tab index count) = Known 24 (Fixed (Int tab ∷ Int index ∷ Int count ∷ []))
+row (TabGroup tab high low grouped) =
+    Known 25 (Fixed (Int tab ∷ Free 4 ∷ Uint64 high ∷ Uint64 low ∷ Flag grouped ∷ Free 7 ∷ []))
+row (AllWorkspaces window all) = Known 32 (Fixed (Int window ∷ Flag all ∷ Free 3 ∷ []))
+row (Raw raw) = Kept raw
 
--- the row of a command, None for a raw one
-abbrev pub row : SessionCommand → Option Row
-row (TabWindow window tab) = Some (record { id = 0; fields = Int window ∷ Int tab ∷ [] })
-row (Raw raw) = None
-
-abbrev pub IsOfRow : Option Row → ℕ → List ℕ → Type 0
-IsOfRow None id payload = ⊥
-IsOfRow (Some r) id payload = (id ≡ r.id) × AreFields r.fields payload
+abbrev pub Holds : Row → ℕ → List ℕ → Type 0
+Holds (Known own layout) id payload = (id ≡ own) × IsLaidOut layout payload
+Holds (Kept raw) id payload = (id ≡ raw.id) × (payload ≡ raw.payload)
 
 -- The payload under this id is the command's: its row holds, or it is raw. A raw command exists only where no
 -- row holds, so at most one command has a payload.
 abbrev pub Payload : ℕ → SessionCommand → List ℕ → Type 0
-Payload id (Raw raw) payload = (id ≡ raw.id) × (payload ≡ raw.payload)
-Payload id command payload = IsOfRow (row command) id payload
+Payload id command payload = Holds (row command) id payload
+
+abbrev pub row_id : Row → ℕ
+row_id (Known id layout) = id
+row_id (Kept raw) = raw.id
+
+abbrev pub row_bytes : Row → List ℕ
+row_bytes (Known id layout) = layout_bytes layout
+row_bytes (Kept raw) = raw.payload
 
 -- the id and the payload that are written for a command
 abbrev pub id_of : SessionCommand → ℕ
-id_of (Raw raw) = raw.id
-id_of (TabWindow window tab) = 0
+id_of command = row_id (row command)
 
-unfoldable pub payload_of : SessionCommand → List ℕ
-payload_of (Raw raw) = raw.payload
-payload_of (TabWindow window tab) = fields_bytes (Int window ∷ Int tab ∷ [])
+abbrev pub payload_of : SessionCommand → List ℕ
+payload_of command = row_bytes (row command)
+
+abbrev pub RowFits : Row → Type 0
+RowFits (Known id layout) = FitsLayout layout
+RowFits (Kept raw) = Unit {0}
+
+-- the numbers are in the ranges of their types, as those of every value are
+abbrev pub IsInRange : SessionCommand → Type 0
+IsInRange command = RowFits (row command)
+
+abbrev pub RowIsWhole : Row → Type 0
+RowIsWhole (Known id layout) = IsWhole layout
+RowIsWhole (Kept raw) = Unit {0}
+
+-- the tail of a pickled command has whole words, and its payload at most 65,534 bytes
+abbrev pub IsSound : SessionCommand → Type 0
+IsSound command = RowIsWhole (row command)
+
+-- what reading gives: a command whose row holds, none where a test fails
+abbrev pub Finds : ℕ → List ℕ → Option SessionCommand → Type 0
+Finds id payload None = is_some (fault_of id payload) ≡ true
+Finds id payload (Some command) = Payload id command payload

@@ -1,8 +1,10 @@
 //! The commands, and how they are read and written.
-ghost use Rattle.std.specs.Prelude.{◌≡◌, ◌≤◌, ◌++◌, length, true, is_some, IfSome, IfNone, IfOk, OnOk, OnErr};
+ghost use Rattle.std.specs.Prelude.{◌≡◌, ◌≤◌, ◌++◌, length, true, is_some, IfOk, OnOk, OnErr};
 
-use crate::fixed;
+use crate::bounds::Bounds;
+use crate::fault::PayloadFault;
 use crate::raw::RawCommand;
+use crate::{fixed, fixed_write};
 use pickle_cells::Blob;
 use std::alloc::{AllocError, Global};
 
@@ -10,42 +12,243 @@ use std::alloc::{AllocError, Global};
 #[derive(Debug, PartialEq, Eq, PartialOrd, Ord, Hash, Drop)]
 pub enum SessionCommand {
     /// Id 0: the tab stands in the window.
-    TabWindow { window: i32, tab: i32 },
+    TabWindow {
+        window: i32,
+        tab: i32,
+    },
+    /// Id 2: the tab's place among the tabs of its window.
+    TabIndex {
+        tab: i32,
+        index: i32,
+    },
+    /// Id 5: pages of the tab from this index on are gone.
+    PrunedBack {
+        tab: i32,
+        index: i32,
+    },
+    /// Id 7: the tab shows the page with this index.
+    SelectNavigation {
+        tab: i32,
+        index: i32,
+    },
+    /// Id 8: the window shows the tab with this index.
+    SelectTab {
+        window: i32,
+        index: i32,
+    },
+    /// Id 9: what kind of window it is.
+    WindowKind {
+        window: i32,
+        kind: i32,
+    },
+    /// Id 11: so many pages at the tab's front are gone.
+    PrunedFront {
+        tab: i32,
+        count: i32,
+    },
+    /// Id 12: whether the tab is pinned.
+    Pinned {
+        tab: i32,
+        pinned: bool,
+    },
+    /// Id 14: where the window stands on the screen.
+    WindowBounds {
+        window: i32,
+        bounds: Bounds,
+    },
+    /// Id 16: the tab was closed at this time.
+    TabClosed {
+        tab: i32,
+        time: i64,
+    },
+    /// Id 17: the window was closed at this time.
+    WindowClosed {
+        window: i32,
+        time: i64,
+    },
+    /// Id 20: the window has the focus.
+    ActiveWindow {
+        window: i32,
+    },
+    /// Id 21: when the tab had the focus last.
+    LastActive {
+        tab: i32,
+        time: i64,
+    },
+    /// Id 24: so many pages of the tab from this index on are gone.
+    Pruned {
+        tab: i32,
+        index: i32,
+        count: i32,
+    },
+    /// Id 25: the group of the tab, a token of two numbers, and none where it isn't grouped.
+    TabGroup {
+        tab: i32,
+        high: u64,
+        low: u64,
+        grouped: bool,
+    },
+    /// Id 32: whether the window is shown on all workspaces.
+    AllWorkspaces {
+        window: i32,
+        all: bool,
+    },
     /// A payload that no row of the table accepts.
     Raw(RawCommand),
 }
 
 impl SessionCommand {
     ghost use Rattle.session_commands.specs.Faults.{fault_of};
-    ghost use Rattle.session_commands.specs.Table.{IsInRange, Payload, id_of, payload_of};
+    ghost use Rattle.session_commands.specs.Table.{Finds, IsInRange, IsSound, Payload, id_of, payload_of};
 
     /// The command whose row holds for the payload, a raw one where none does. It allocates only for the bytes
     /// of a raw one.
-    #[tactic(auto, using(crate::proofs::FixedLaws::one_command))]
+    #[tactic(auto, using(crate::proofs::TableLaws::one_command))]
     pub fn read(alloc: Global, id: u8, payload: &[u8]) -> Result<SessionCommand, AllocError>
         requires { length payload.now ≤ 65534 }
         ensures found { IfOk result (λ command. Payload id command payload.now) }
         ensures only { IfOk result (λ command. (other : SessionCommand) → Payload id other payload.now → other ≡ command) }
+        ensures sound { IfOk result (λ command. IsSound command) }
     {
-        if let Some(command) = SessionCommand::known(id, payload) {
+        if let Some(command) = SessionCommand::fixed(id, payload) {
             return Ok(command);
         }
         let payload = Blob::from_slice(alloc, payload)?;
         Ok(SessionCommand::Raw(RawCommand { id, payload }))
     }
 
-    // The command whose row holds for the payload.
+    // The command of a payload of fixed length, under an id that isn't one of a pickled payload.
     #[tactic(auto, unfolding(crate::specs::Faults::fault_of))]
-    fn known(id: u8, payload: &[u8]) -> Option<SessionCommand>
-        ensures some { IfSome result (λ command. Payload id command payload.now) }
-        ensures none { IfNone result (is_some (fault_of id payload.now) ≡ true) }
+    fn fixed(id: u8, payload: &[u8]) -> Option<SessionCommand>
+        ensures { Finds id payload.now result }
+    {
+        match id {
+            0..=11 => SessionCommand::fixed_to_11(id, payload),
+            12..=17 => SessionCommand::fixed_to_17(id, payload),
+            18..=25 => SessionCommand::fixed_to_25(id, payload),
+            32 => {
+                let (window, all) = fixed::int_flag(payload)?;
+                Some(SessionCommand::AllWorkspaces { window, all })
+            }
+            _ => None,
+        }
+    }
+
+    // The ids from 0 to 11.
+    #[tactic(auto, unfolding(crate::specs::Faults::fault_of))]
+    fn fixed_to_11(id: u8, payload: &[u8]) -> Option<SessionCommand>
+        requires high { id ≤ 11 }
+        ensures { Finds id payload.now result }
     {
         match id {
             0 => {
                 let (window, tab) = fixed::two_ints(payload)?;
                 Some(SessionCommand::TabWindow { window, tab })
             }
+            2 => {
+                let (tab, index) = fixed::two_ints(payload)?;
+                Some(SessionCommand::TabIndex { tab, index })
+            }
+            5 => {
+                let (tab, index) = fixed::two_ints(payload)?;
+                Some(SessionCommand::PrunedBack { tab, index })
+            }
+            7 => {
+                let (tab, index) = fixed::two_ints(payload)?;
+                Some(SessionCommand::SelectNavigation { tab, index })
+            }
+            8 => {
+                let (window, index) = fixed::two_ints(payload)?;
+                Some(SessionCommand::SelectTab { window, index })
+            }
+            9 => {
+                let (window, kind) = fixed::two_ints(payload)?;
+                Some(SessionCommand::WindowKind { window, kind })
+            }
+            11 => {
+                let (tab, count) = fixed::two_ints(payload)?;
+                Some(SessionCommand::PrunedFront { tab, count })
+            }
             _ => None,
+        }
+    }
+
+    // The ids from 12 to 17.
+    #[tactic(auto, unfolding(crate::specs::Faults::fault_of))]
+    fn fixed_to_17(id: u8, payload: &[u8]) -> Option<SessionCommand>
+        requires low { 12 ≤ id }
+        requires high { id ≤ 17 }
+        ensures { Finds id payload.now result }
+    {
+        match id {
+            12 => {
+                let (tab, pinned) = fixed::int_flag(payload)?;
+                Some(SessionCommand::Pinned { tab, pinned })
+            }
+            14 => {
+                let (window, bounds) = fixed::window_bounds(payload)?;
+                Some(SessionCommand::WindowBounds { window, bounds })
+            }
+            16 => {
+                let (tab, time) = fixed::int_time(payload)?;
+                Some(SessionCommand::TabClosed { tab, time })
+            }
+            17 => {
+                let (window, time) = fixed::int_time(payload)?;
+                Some(SessionCommand::WindowClosed { window, time })
+            }
+            _ => None,
+        }
+    }
+
+    // The ids from 18 to 25.
+    #[tactic(auto, unfolding(crate::specs::Faults::fault_of))]
+    fn fixed_to_25(id: u8, payload: &[u8]) -> Option<SessionCommand>
+        requires low { 18 ≤ id }
+        requires high { id ≤ 25 }
+        ensures { Finds id payload.now result }
+    {
+        match id {
+            20 => {
+                let window = fixed::int(payload)?;
+                Some(SessionCommand::ActiveWindow { window })
+            }
+            21 => {
+                let (tab, time) = fixed::int_time(payload)?;
+                Some(SessionCommand::LastActive { tab, time })
+            }
+            24 => {
+                let (tab, index, count) = fixed::three_ints(payload)?;
+                Some(SessionCommand::Pruned { tab, index, count })
+            }
+            25 => {
+                let (tab, high, low, grouped) = fixed::tab_group(payload)?;
+                Some(SessionCommand::TabGroup {
+                    tab,
+                    high,
+                    low,
+                    grouped,
+                })
+            }
+            _ => None,
+        }
+    }
+
+    /// Why the payload is kept raw: the first test of the table that it fails, and `None` exactly where a row
+    /// holds. It takes no memory.
+    #[tactic(auto, unfolding(crate::specs::Faults::fault_of))]
+    pub fn why_raw(id: u8, payload: &[u8]) -> Option<PayloadFault>
+        requires { length payload.now ≤ 65534 }
+        ensures { result ≡ fault_of id payload.now }
+    {
+        match id {
+            0 | 2 | 5 | 7 | 8 | 9 | 11 | 12 | 32 => fixed::wrong_length(8, payload),
+            14 => fixed::wrong_length(24, payload),
+            16 | 17 | 21 => fixed::wrong_length(16, payload),
+            20 => fixed::wrong_length(4, payload),
+            24 => fixed::wrong_length(12, payload),
+            25 => fixed::wrong_length(32, payload),
+            _ => Some(PayloadFault::UnknownId),
         }
     }
 
@@ -55,22 +258,85 @@ impl SessionCommand {
     {
         match self {
             SessionCommand::TabWindow { .. } => 0,
+            SessionCommand::TabIndex { .. } => 2,
+            SessionCommand::PrunedBack { .. } => 5,
+            SessionCommand::SelectNavigation { .. } => 7,
+            SessionCommand::SelectTab { .. } => 8,
+            SessionCommand::WindowKind { .. } => 9,
+            SessionCommand::PrunedFront { .. } => 11,
+            SessionCommand::Pinned { .. } => 12,
+            SessionCommand::WindowBounds { .. } => 14,
+            SessionCommand::TabClosed { .. } => 16,
+            SessionCommand::WindowClosed { .. } => 17,
+            SessionCommand::ActiveWindow { .. } => 20,
+            SessionCommand::LastActive { .. } => 21,
+            SessionCommand::Pruned { .. } => 24,
+            SessionCommand::TabGroup { .. } => 25,
+            SessionCommand::AllWorkspaces { .. } => 32,
             SessionCommand::Raw(raw) => raw.id,
         }
     }
 
     /// Appends the payload, which has at most 65,534 bytes and reads back as the same command. After an `Err`
     /// `out` is as before.
-    #[tactic(auto, using(crate::proofs::FixedLaws::written), unfolding(crate::specs::Table::payload_of))]
+    #[tactic(auto, using(crate::proofs::TableLaws::written))]
     pub fn write(&self, out: &mut Vec<u8>) -> Result<(), AllocError>
+        requires { IsSound self.now }
         ensures ok { OnOk result (out.new.items ≡ out.old.items ++ payload_of self.now) }
         ensures err { OnErr result (out.new.items ≡ out.old.items) }
         ensures short { length (payload_of self.now) ≤ 65534 }
         ensures reads_back { Payload (id_of self.now) self.now (payload_of self.now) }
     {
         self.known_in_range();
+        self.append(out)
+    }
+
+    fn append(&self, out: &mut Vec<u8>) -> Result<(), AllocError>
+        ensures ok { OnOk result (out.new.items ≡ out.old.items ++ payload_of self.now) }
+        ensures err { OnErr result (out.new.items ≡ out.old.items) }
+    {
         match self {
-            SessionCommand::TabWindow { window, tab } => fixed::put_two_ints(*window, *tab, out),
+            SessionCommand::TabWindow { window, tab } => fixed_write::put_two_ints(
+                *window, *tab, out,
+            ),
+            SessionCommand::TabIndex { tab, index } => fixed_write::put_two_ints(*tab, *index, out),
+            SessionCommand::PrunedBack { tab, index } => fixed_write::put_two_ints(
+                *tab, *index, out,
+            ),
+            SessionCommand::SelectNavigation { tab, index } => fixed_write::put_two_ints(
+                *tab, *index, out,
+            ),
+            SessionCommand::SelectTab { window, index } => fixed_write::put_two_ints(
+                *window, *index, out,
+            ),
+            SessionCommand::WindowKind { window, kind } => fixed_write::put_two_ints(
+                *window, *kind, out,
+            ),
+            SessionCommand::PrunedFront { tab, count } => fixed_write::put_two_ints(
+                *tab, *count, out,
+            ),
+            SessionCommand::Pinned { tab, pinned } => fixed_write::put_int_flag(*tab, *pinned, out),
+            SessionCommand::WindowBounds { window, bounds } => fixed_write::put_window_bounds(
+                *window, *bounds, out,
+            ),
+            SessionCommand::TabClosed { tab, time } => fixed_write::put_int_time(*tab, *time, out),
+            SessionCommand::WindowClosed { window, time } => fixed_write::put_int_time(
+                *window, *time, out,
+            ),
+            SessionCommand::ActiveWindow { window } => fixed_write::put_int(*window, out),
+            SessionCommand::LastActive { tab, time } => fixed_write::put_int_time(*tab, *time, out),
+            SessionCommand::Pruned { tab, index, count } => fixed_write::put_three_ints(
+                *tab, *index, *count, out,
+            ),
+            SessionCommand::TabGroup {
+                tab,
+                high,
+                low,
+                grouped,
+            } => fixed_write::put_tab_group(*tab, *high, *low, *grouped, out),
+            SessionCommand::AllWorkspaces { window, all } => fixed_write::put_int_flag(
+                *window, *all, out,
+            ),
             SessionCommand::Raw(raw) => out.extend_from_slice(raw.payload.as_slice()),
         }
     }
@@ -82,6 +348,57 @@ impl SessionCommand {
         match self {
             SessionCommand::TabWindow { window, tab } => {
                 let (_window, _tab) = (*window, *tab);
+            }
+            SessionCommand::TabIndex { tab, index } => {
+                let (_tab, _index) = (*tab, *index);
+            }
+            SessionCommand::PrunedBack { tab, index } => {
+                let (_tab, _index) = (*tab, *index);
+            }
+            SessionCommand::SelectNavigation { tab, index } => {
+                let (_tab, _index) = (*tab, *index);
+            }
+            SessionCommand::SelectTab { window, index } => {
+                let (_window, _index) = (*window, *index);
+            }
+            SessionCommand::WindowKind { window, kind } => {
+                let (_window, _kind) = (*window, *kind);
+            }
+            SessionCommand::PrunedFront { tab, count } => {
+                let (_tab, _count) = (*tab, *count);
+            }
+            SessionCommand::Pinned { tab, pinned } => {
+                let (_tab, _pinned) = (*tab, *pinned);
+            }
+            SessionCommand::WindowBounds { window, bounds } => {
+                let (_window, _x, _y) = (*window, bounds.x, bounds.y);
+                let (_width, _height, _show) = (bounds.width, bounds.height, bounds.show);
+            }
+            SessionCommand::TabClosed { tab, time } => {
+                let (_tab, _time) = (*tab, *time);
+            }
+            SessionCommand::WindowClosed { window, time } => {
+                let (_window, _time) = (*window, *time);
+            }
+            SessionCommand::ActiveWindow { window } => {
+                let _window = *window;
+            }
+            SessionCommand::LastActive { tab, time } => {
+                let (_tab, _time) = (*tab, *time);
+            }
+            SessionCommand::Pruned { tab, index, count } => {
+                let (_tab, _index, _count) = (*tab, *index, *count);
+            }
+            SessionCommand::TabGroup {
+                tab,
+                high,
+                low,
+                grouped,
+            } => {
+                let (_tab, _high, _low, _grouped) = (*tab, *high, *low, *grouped);
+            }
+            SessionCommand::AllWorkspaces { window, all } => {
+                let (_window, _all) = (*window, *all);
             }
             SessionCommand::Raw(_) => {}
         }
@@ -95,6 +412,75 @@ impl SessionCommand {
             SessionCommand::TabWindow { window, tab } => Ok(SessionCommand::TabWindow {
                 window: *window,
                 tab: *tab,
+            }),
+            SessionCommand::TabIndex { tab, index } => Ok(SessionCommand::TabIndex {
+                tab: *tab,
+                index: *index,
+            }),
+            SessionCommand::PrunedBack { tab, index } => Ok(SessionCommand::PrunedBack {
+                tab: *tab,
+                index: *index,
+            }),
+            SessionCommand::SelectNavigation { tab, index } => Ok(
+                SessionCommand::SelectNavigation {
+                    tab: *tab,
+                    index: *index,
+                },
+            ),
+            SessionCommand::SelectTab { window, index } => Ok(SessionCommand::SelectTab {
+                window: *window,
+                index: *index,
+            }),
+            SessionCommand::WindowKind { window, kind } => Ok(SessionCommand::WindowKind {
+                window: *window,
+                kind: *kind,
+            }),
+            SessionCommand::PrunedFront { tab, count } => Ok(SessionCommand::PrunedFront {
+                tab: *tab,
+                count: *count,
+            }),
+            SessionCommand::Pinned { tab, pinned } => Ok(SessionCommand::Pinned {
+                tab: *tab,
+                pinned: *pinned,
+            }),
+            SessionCommand::WindowBounds { window, bounds } => Ok(SessionCommand::WindowBounds {
+                window: *window,
+                bounds: *bounds,
+            }),
+            SessionCommand::TabClosed { tab, time } => Ok(SessionCommand::TabClosed {
+                tab: *tab,
+                time: *time,
+            }),
+            SessionCommand::WindowClosed { window, time } => Ok(SessionCommand::WindowClosed {
+                window: *window,
+                time: *time,
+            }),
+            SessionCommand::ActiveWindow { window } => Ok(SessionCommand::ActiveWindow {
+                window: *window,
+            }),
+            SessionCommand::LastActive { tab, time } => Ok(SessionCommand::LastActive {
+                tab: *tab,
+                time: *time,
+            }),
+            SessionCommand::Pruned { tab, index, count } => Ok(SessionCommand::Pruned {
+                tab: *tab,
+                index: *index,
+                count: *count,
+            }),
+            SessionCommand::TabGroup {
+                tab,
+                high,
+                low,
+                grouped,
+            } => Ok(SessionCommand::TabGroup {
+                tab: *tab,
+                high: *high,
+                low: *low,
+                grouped: *grouped,
+            }),
+            SessionCommand::AllWorkspaces { window, all } => Ok(SessionCommand::AllWorkspaces {
+                window: *window,
+                all: *all,
             }),
             SessionCommand::Raw(raw) => Ok(SessionCommand::Raw(raw.copy()?)),
         }

@@ -2,11 +2,14 @@
 //! as it is. Stands on pickle_cells.
 #![tactic(auto)]
 
+mod bounds;
 mod command;
 mod fault;
 mod fixed;
+mod fixed_write;
 mod raw;
 
+pub use bounds::Bounds;
 pub use command::SessionCommand;
 pub use fault::PayloadFault;
 pub use raw::RawCommand;
