@@ -1,3 +1,6 @@
 pub mod FieldLaws
 pub mod ShapeLaws
+pub mod LayoutLaws
+pub mod RowLaws
 pub mod TableLaws
+pub mod WriteLaws

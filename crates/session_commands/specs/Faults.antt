@@ -1,6 +1,6 @@
 -- Why no row of the table of commands holds for a payload.
 use Rattle.std.specs.Prelude.{ℕ, List, [], ◌∷◌, length, Option, Some, None, option_map, if◌then◌else◌, ◌==◌}
-use Rattle.pickle_cells.specs.PickleLayout.{pickled_fault}
+use Rattle.pickle_cells.specs.PickleLayout.{IntKind, TextKind, pickled_fault}
 use Rattle.session_commands.specs.FixedReading.{IntField, Int64Field, Uint64Field, FlagField, FreeField, width}
 use Rattle.session_commands.specs.Layouts.{Shape, FixedShape, PickledShape}
 use Rattle.session_commands.specs.declared.fault.PayloadFault.{PayloadFault}
@@ -24,8 +24,17 @@ int_flag_shape = FixedShape (IntField ∷ FlagField ∷ FreeField 3 ∷ [])
 abbrev pub int_time_shape : Shape
 int_time_shape = FixedShape (IntField ∷ FreeField 4 ∷ Int64Field ∷ [])
 
-abbrev pub group_shape : Shape
-group_shape = FixedShape (IntField ∷ FreeField 4 ∷ Uint64Field ∷ Uint64Field ∷ FlagField ∷ FreeField 7 ∷ [])
+abbrev pub tab_group_shape : Shape
+tab_group_shape = FixedShape (IntField ∷ FreeField 4 ∷ Uint64Field ∷ Uint64Field ∷ FlagField ∷ FreeField 7 ∷ [])
+
+abbrev pub int_rest_shape : Shape
+int_rest_shape = PickledShape (IntKind ∷ [])
+
+abbrev pub int_text_shape : Shape
+int_text_shape = PickledShape (IntKind ∷ TextKind ∷ [])
+
+abbrev pub int_two_texts_shape : Shape
+int_two_texts_shape = PickledShape (IntKind ∷ TextKind ∷ TextKind ∷ [])
 
 -- the shape of the payloads of an id with a row, as the table has them
 abbrev pub shape_of : ℕ → Option Shape
@@ -38,14 +47,23 @@ shape_of id =
     (if id == 9 then Some two_ints_shape else
     (if id == 11 then Some two_ints_shape else
     (if id == 12 then Some int_flag_shape else
+    (if id == 13 then Some int_text_shape else
     (if id == 14 then Some six_ints_shape else
+    (if id == 15 then Some int_text_shape else
     (if id == 16 then Some int_time_shape else
     (if id == 17 then Some int_time_shape else
+    (if id == 19 then Some int_text_shape else
     (if id == 20 then Some int_shape else
     (if id == 21 then Some int_time_shape else
+    (if id == 23 then Some int_text_shape else
     (if id == 24 then Some three_ints_shape else
-    (if id == 25 then Some group_shape else
-    (if id == 32 then Some int_flag_shape else None)))))))))))))))
+    (if id == 25 then Some tab_group_shape else
+    (if id == 28 then Some int_text_shape else
+    (if id == 29 then Some int_rest_shape else
+    (if id == 31 then Some int_text_shape else
+    (if id == 32 then Some int_flag_shape else
+    (if id == 33 then Some int_two_texts_shape else
+    (if id == 34 then Some int_two_texts_shape else None))))))))))))))))))))))))
 
 abbrev pub length_fault : ℕ → List ℕ → Option PayloadFault
 length_fault wanted payload = if length payload == wanted then None else Some (Length wanted (length payload))

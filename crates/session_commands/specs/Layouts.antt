@@ -1,10 +1,10 @@
 -- How a payload is laid out: fields of fixed length, or the items of a pickle and a tail. A row of the table of
 -- commands says an id and a layout.
-use Rattle.std.specs.Prelude.{◌≡◌, ℕ, ◌%◌, ◌<◌, ◌≤◌, ◌^◌, List, length, map, FitsSigned}
+use Rattle.std.specs.Prelude.{◌≡◌, ℕ, ◌%◌, ◌<◌, ◌≤◌, ◌^◌, List, length, map, get_or, FitsSigned}
 use Rattle.std.specs.List.{AllByRecursion}
 use Rattle.std.specs.Int.{w32, w64}
 use Rattle.pickle_cells.specs.Layout.{Field, Int, Int64, Uint64, Flag, Free, AreFields, fields_bytes}
-use Rattle.pickle_cells.specs.PickleLayout.{Item, ItemKind, kind_of, FitsItem, IsPickled, pickled_bytes}
+use Rattle.pickle_cells.specs.PickleLayout.{Item, Int as IntItem, Int64 as Int64Item, Uint32 as Uint32Item, Uint64 as Uint64Item, Flag as FlagItem, Text as TextItem, Units as UnitsItem, ItemKind, kind_of, IsPickled, pickled_bytes, pickled_size}
 use Rattle.session_commands.specs.FixedReading.{FieldKind, field_kind}
 
 pub data Layout : Type 0 where
@@ -37,12 +37,22 @@ FitsField (Uint64 n) = n < 2 ^ 64
 FitsField (Flag b) = Unit {0}
 FitsField (Free n) = Unit {0}
 
--- the values have bytes
+-- a number is in its type's range
+abbrev pub IsInType : Item → Type 0
+IsInType (IntItem z) = FitsSigned w32 z
+IsInType (Int64Item z) = FitsSigned w64 z
+IsInType (Uint32Item n) = n < 2 ^ 32
+IsInType (Uint64Item n) = n < 2 ^ 64
+IsInType (FlagItem b) = Unit {0}
+IsInType (TextItem text) = Unit {0}
+IsInType (UnitsItem units) = (i : ℕ) → get_or units i 0 < 2 ^ 16
+
+-- the numbers of a layout are in their types' ranges
 abbrev pub FitsLayout : Layout → Type 0
 FitsLayout (Fixed fields) = AllByRecursion FitsField fields
-FitsLayout (Pickled items tail) = AllByRecursion FitsItem items
+FitsLayout (Pickled items tail) = AllByRecursion IsInType items
 
--- what a pickle asks of a tail: whole words, and no more bytes than a payload may have
+-- what a pickle asks of its tail: whole words, and no more bytes in all than a payload may have
 abbrev pub IsWhole : Layout → Type 0
 IsWhole (Fixed fields) = Unit {0}
-IsWhole (Pickled items tail) = (length tail % 4 ≡ 0) × (length (pickled_bytes items tail) ≤ 65534)
+IsWhole (Pickled items tail) = (length tail % 4 ≡ 0) × (pickled_size items tail ≤ 65534)

@@ -2,11 +2,12 @@
 -- this profile's, after Chromium's components/sessions/core/session_service_commands.cc.
 use Rattle.std.specs.Prelude.{◌≡◌, ℕ, List, [], ◌∷◌, is_some, true, Option, Some, None}
 use Rattle.pickle_cells.specs.Layout.{Int, Int64, Uint64, Flag, Free}
-use Rattle.session_commands.specs.Layouts.{Layout, Fixed, IsLaidOut, FitsLayout, IsWhole, layout_bytes}
+use Rattle.pickle_cells.specs.PickleLayout.{Int as IntItem, Text as TextItem}
+use Rattle.session_commands.specs.Layouts.{Layout, Fixed, Pickled, IsLaidOut, FitsLayout, IsWhole, layout_bytes}
 use Rattle.session_commands.specs.Faults.{fault_of}
 use Rattle.session_commands.specs.declared.raw.RawCommand.{RawCommand}
 use Rattle.session_commands.specs.declared.command.SessionCommand.{SessionCommand}
-use Rattle.session_commands.specs.declared.command.SessionCommand.TheVariants.{TabWindow, TabIndex, PrunedBack, SelectNavigation, SelectTab, WindowKind, PrunedFront, Pinned, WindowBounds, TabClosed, WindowClosed, ActiveWindow, LastActive, Pruned, TabGroup, AllWorkspaces, Raw}
+use Rattle.session_commands.specs.declared.command.SessionCommand.TheVariants.{Extension, WindowApp, SessionStorage, Workspace, TabGuid, UserAgent, UserTitle, TabExtra, WindowExtra, TabWindow, TabIndex, PrunedBack, SelectNavigation, SelectTab, WindowKind, PrunedFront, Pinned, WindowBounds, TabClosed, WindowClosed, ActiveWindow, LastActive, Pruned, TabGroup, AllWorkspaces, Raw}
 
 -- a row says an id and a layout; a raw command is kept without one
 pub data Row : Type 0 where
@@ -22,16 +23,25 @@ row (SelectTab window index) = Known 8 (Fixed (Int window ∷ Int index ∷ []))
 row (WindowKind window kind) = Known 9 (Fixed (Int window ∷ Int kind ∷ []))
 row (PrunedFront tab count) = Known 11 (Fixed (Int tab ∷ Int count ∷ []))
 row (Pinned tab pinned) = Known 12 (Fixed (Int tab ∷ Flag pinned ∷ Free 3 ∷ []))
+row (Extension tab extension tail) = Known 13 (Pickled (IntItem tab ∷ TextItem extension ∷ []) tail)
 row (WindowBounds window b) =
     Known 14 (Fixed (Int window ∷ Int b.x ∷ Int b.y ∷ Int b.width ∷ Int b.height ∷ Int b.show ∷ []))
+row (WindowApp window name tail) = Known 15 (Pickled (IntItem window ∷ TextItem name ∷ []) tail)
 row (TabClosed tab time) = Known 16 (Fixed (Int tab ∷ Free 4 ∷ Int64 time ∷ []))
 row (WindowClosed window time) = Known 17 (Fixed (Int window ∷ Free 4 ∷ Int64 time ∷ []))
+row (SessionStorage tab storage tail) = Known 19 (Pickled (IntItem tab ∷ TextItem storage ∷ []) tail)
 row (ActiveWindow window) = Known 20 (Fixed (Int window ∷ []))
 row (LastActive tab time) = Known 21 (Fixed (Int tab ∷ Free 4 ∷ Int64 time ∷ []))
+row (Workspace window workspace tail) = Known 23 (Pickled (IntItem window ∷ TextItem workspace ∷ []) tail)
 row (Pruned tab index count) = Known 24 (Fixed (Int tab ∷ Int index ∷ Int count ∷ []))
 row (TabGroup tab high low grouped) =
     Known 25 (Fixed (Int tab ∷ Free 4 ∷ Uint64 high ∷ Uint64 low ∷ Flag grouped ∷ Free 7 ∷ []))
+row (TabGuid tab guid tail) = Known 28 (Pickled (IntItem tab ∷ TextItem guid ∷ []) tail)
+row (UserAgent tab rest) = Known 29 (Pickled (IntItem tab ∷ []) rest)
+row (UserTitle window title tail) = Known 31 (Pickled (IntItem window ∷ TextItem title ∷ []) tail)
 row (AllWorkspaces window all) = Known 32 (Fixed (Int window ∷ Flag all ∷ Free 3 ∷ []))
+row (TabExtra tab key value tail) = Known 33 (Pickled (IntItem tab ∷ TextItem key ∷ TextItem value ∷ []) tail)
+row (WindowExtra window key value tail) = Known 34 (Pickled (IntItem window ∷ TextItem key ∷ TextItem value ∷ []) tail)
 row (Raw raw) = Kept raw
 
 abbrev pub Holds : Row → ℕ → List ℕ → Type 0

@@ -1,10 +1,10 @@
 //! The commands, and how they are read and written.
-ghost use Rattle.std.specs.Prelude.{◌≡◌, ◌≤◌, ◌++◌, length, true, is_some, IfOk, OnOk, OnErr};
+ghost use Rattle.std.specs.Prelude.{◌≡◌, ◌≢◌, ◌≤◌, ◌++◌, length, true, is_some, IfOk, OnOk, OnErr};
 
 use crate::bounds::Bounds;
 use crate::fault::PayloadFault;
 use crate::raw::RawCommand;
-use crate::{fixed, fixed_write};
+use crate::{fixed, fixed_write, pickled, pickled_write};
 use pickle_cells::Blob;
 use std::alloc::{AllocError, Global};
 
@@ -51,10 +51,22 @@ pub enum SessionCommand {
         tab: i32,
         pinned: bool,
     },
+    /// Id 13: the extension that made the tab.
+    Extension {
+        tab: i32,
+        extension: Blob,
+        tail: Blob,
+    },
     /// Id 14: where the window stands on the screen.
     WindowBounds {
         window: i32,
         bounds: Bounds,
+    },
+    /// Id 15: the application of the window.
+    WindowApp {
+        window: i32,
+        name: Blob,
+        tail: Blob,
     },
     /// Id 16: the tab was closed at this time.
     TabClosed {
@@ -66,6 +78,12 @@ pub enum SessionCommand {
         window: i32,
         time: i64,
     },
+    /// Id 19: the name of the tab's storage.
+    SessionStorage {
+        tab: i32,
+        storage: Blob,
+        tail: Blob,
+    },
     /// Id 20: the window has the focus.
     ActiveWindow {
         window: i32,
@@ -74,6 +92,12 @@ pub enum SessionCommand {
     LastActive {
         tab: i32,
         time: i64,
+    },
+    /// Id 23: the workspace of the window.
+    Workspace {
+        window: i32,
+        workspace: Blob,
+        tail: Blob,
     },
     /// Id 24: so many pages of the tab from this index on are gone.
     Pruned {
@@ -88,10 +112,41 @@ pub enum SessionCommand {
         low: u64,
         grouped: bool,
     },
+    /// Id 28: the tab's own name.
+    TabGuid {
+        tab: i32,
+        guid: Blob,
+        tail: Blob,
+    },
+    /// Id 29: the user agent that the tab shows; `rest` isn't looked into.
+    UserAgent {
+        tab: i32,
+        rest: Blob,
+    },
+    /// Id 31: the title that the user gave the window.
+    UserTitle {
+        window: i32,
+        title: Blob,
+        tail: Blob,
+    },
     /// Id 32: whether the window is shown on all workspaces.
     AllWorkspaces {
         window: i32,
         all: bool,
+    },
+    /// Id 33: a value of the tab under a key.
+    TabExtra {
+        tab: i32,
+        key: Blob,
+        value: Blob,
+        tail: Blob,
+    },
+    /// Id 34: a value of the window under a key.
+    WindowExtra {
+        window: i32,
+        key: Blob,
+        value: Blob,
+        tail: Blob,
     },
     /// A payload that no row of the table accepts.
     Raw(RawCommand),
@@ -101,25 +156,122 @@ impl SessionCommand {
     ghost use Rattle.session_commands.specs.Faults.{fault_of};
     ghost use Rattle.session_commands.specs.Table.{Finds, IsInRange, IsSound, Payload, id_of, payload_of};
 
-    /// The command whose row holds for the payload, a raw one where none does. It allocates only for the bytes
-    /// of a raw one.
-    #[tactic(auto, using(crate::proofs::TableLaws::one_command))]
+    /// The command whose row holds for the payload, a raw one where none does. It allocates once for
+    /// each byte string that it keeps, and nothing for a payload of fixed length.
+    #[tactic(auto, using(crate::proofs::TableLaws::one_command, crate::proofs::TableLaws::is_sound))]
     pub fn read(alloc: Global, id: u8, payload: &[u8]) -> Result<SessionCommand, AllocError>
         requires { length payload.now ≤ 65534 }
         ensures found { IfOk result (λ command. Payload id command payload.now) }
         ensures only { IfOk result (λ command. (other : SessionCommand) → Payload id other payload.now → other ≡ command) }
         ensures sound { IfOk result (λ command. IsSound command) }
     {
-        if let Some(command) = SessionCommand::fixed(id, payload) {
+        if let Some(command) = SessionCommand::known(alloc, id, payload)? {
             return Ok(command);
         }
         let payload = Blob::from_slice(alloc, payload)?;
         Ok(SessionCommand::Raw(RawCommand { id, payload }))
     }
 
+    // The command whose row holds for the payload.
+    #[tactic(auto, unfolding(crate::specs::Faults::fault_of))]
+    fn known(alloc: Global, id: u8, payload: &[u8]) -> Result<Option<SessionCommand>, AllocError>
+        requires { length payload.now ≤ 65534 }
+        ensures { IfOk result (λ found. Finds id payload.now found) }
+    {
+        match id {
+            13 => {
+                let Some((tab, extension, tail)) = pickled::int_text(alloc, payload)? else {
+                    return Ok(None);
+                };
+                Ok(Some(SessionCommand::Extension {
+                    tab,
+                    extension,
+                    tail,
+                }))
+            }
+            15 => {
+                let Some((window, name, tail)) = pickled::int_text(alloc, payload)? else {
+                    return Ok(None);
+                };
+                Ok(Some(SessionCommand::WindowApp { window, name, tail }))
+            }
+            19 => {
+                let Some((tab, storage, tail)) = pickled::int_text(alloc, payload)? else {
+                    return Ok(None);
+                };
+                Ok(Some(SessionCommand::SessionStorage { tab, storage, tail }))
+            }
+            23 => {
+                let Some((window, workspace, tail)) = pickled::int_text(alloc, payload)? else {
+                    return Ok(None);
+                };
+                Ok(Some(SessionCommand::Workspace {
+                    window,
+                    workspace,
+                    tail,
+                }))
+            }
+            28 => {
+                let Some((tab, guid, tail)) = pickled::int_text(alloc, payload)? else {
+                    return Ok(None);
+                };
+                Ok(Some(SessionCommand::TabGuid { tab, guid, tail }))
+            }
+            29 => {
+                let Some((tab, rest)) = pickled::int_rest(alloc, payload)? else {
+                    return Ok(None);
+                };
+                Ok(Some(SessionCommand::UserAgent { tab, rest }))
+            }
+            31 => {
+                let Some((window, title, tail)) = pickled::int_text(alloc, payload)? else {
+                    return Ok(None);
+                };
+                Ok(Some(SessionCommand::UserTitle {
+                    window,
+                    title,
+                    tail,
+                }))
+            }
+            33 => {
+                let Some((tab, key, value, tail)) = pickled::int_two_texts(alloc, payload)? else {
+                    return Ok(None);
+                };
+                Ok(Some(SessionCommand::TabExtra {
+                    tab,
+                    key,
+                    value,
+                    tail,
+                }))
+            }
+            34 => {
+                let Some((window, key, value, tail)) = pickled::int_two_texts(alloc, payload)?
+                else {
+                    return Ok(None);
+                };
+                Ok(Some(SessionCommand::WindowExtra {
+                    window,
+                    key,
+                    value,
+                    tail,
+                }))
+            }
+            _ => Ok(SessionCommand::fixed(id, payload)),
+        }
+    }
+
     // The command of a payload of fixed length, under an id that isn't one of a pickled payload.
     #[tactic(auto, unfolding(crate::specs::Faults::fault_of))]
     fn fixed(id: u8, payload: &[u8]) -> Option<SessionCommand>
+        requires not_13 { id ≢ 13 }
+        requires not_15 { id ≢ 15 }
+        requires not_19 { id ≢ 19 }
+        requires not_23 { id ≢ 23 }
+        requires not_28 { id ≢ 28 }
+        requires not_29 { id ≢ 29 }
+        requires not_31 { id ≢ 31 }
+        requires not_33 { id ≢ 33 }
+        requires not_34 { id ≢ 34 }
         ensures { Finds id payload.now result }
     {
         match id {
@@ -137,7 +289,7 @@ impl SessionCommand {
     // The ids from 0 to 11.
     #[tactic(auto, unfolding(crate::specs::Faults::fault_of))]
     fn fixed_to_11(id: u8, payload: &[u8]) -> Option<SessionCommand>
-        requires high { id ≤ 11 }
+        requires { id ≤ 11 }
         ensures { Finds id payload.now result }
     {
         match id {
@@ -178,6 +330,8 @@ impl SessionCommand {
     fn fixed_to_17(id: u8, payload: &[u8]) -> Option<SessionCommand>
         requires low { 12 ≤ id }
         requires high { id ≤ 17 }
+        requires not_13 { id ≢ 13 }
+        requires not_15 { id ≢ 15 }
         ensures { Finds id payload.now result }
     {
         match id {
@@ -206,6 +360,8 @@ impl SessionCommand {
     fn fixed_to_25(id: u8, payload: &[u8]) -> Option<SessionCommand>
         requires low { 18 ≤ id }
         requires high { id ≤ 25 }
+        requires not_19 { id ≢ 19 }
+        requires not_23 { id ≢ 23 }
         ensures { Finds id payload.now result }
     {
         match id {
@@ -248,6 +404,9 @@ impl SessionCommand {
             20 => fixed::wrong_length(4, payload),
             24 => fixed::wrong_length(12, payload),
             25 => fixed::wrong_length(32, payload),
+            13 | 15 | 19 | 23 | 28 | 31 => pickled::int_text_fault(payload),
+            29 => pickled::int_rest_fault(payload),
+            33 | 34 => pickled::int_two_texts_fault(payload),
             _ => Some(PayloadFault::UnknownId),
         }
     }
@@ -265,14 +424,23 @@ impl SessionCommand {
             SessionCommand::WindowKind { .. } => 9,
             SessionCommand::PrunedFront { .. } => 11,
             SessionCommand::Pinned { .. } => 12,
+            SessionCommand::Extension { .. } => 13,
             SessionCommand::WindowBounds { .. } => 14,
+            SessionCommand::WindowApp { .. } => 15,
             SessionCommand::TabClosed { .. } => 16,
             SessionCommand::WindowClosed { .. } => 17,
+            SessionCommand::SessionStorage { .. } => 19,
             SessionCommand::ActiveWindow { .. } => 20,
             SessionCommand::LastActive { .. } => 21,
+            SessionCommand::Workspace { .. } => 23,
             SessionCommand::Pruned { .. } => 24,
             SessionCommand::TabGroup { .. } => 25,
+            SessionCommand::TabGuid { .. } => 28,
+            SessionCommand::UserAgent { .. } => 29,
+            SessionCommand::UserTitle { .. } => 31,
             SessionCommand::AllWorkspaces { .. } => 32,
+            SessionCommand::TabExtra { .. } => 33,
+            SessionCommand::WindowExtra { .. } => 34,
             SessionCommand::Raw(raw) => raw.id,
         }
     }
@@ -292,6 +460,7 @@ impl SessionCommand {
     }
 
     fn append(&self, out: &mut Vec<u8>) -> Result<(), AllocError>
+        requires { IsSound self.now }
         ensures ok { OnOk result (out.new.items ≡ out.old.items ++ payload_of self.now) }
         ensures err { OnErr result (out.new.items ≡ out.old.items) }
     {
@@ -316,15 +485,37 @@ impl SessionCommand {
                 *tab, *count, out,
             ),
             SessionCommand::Pinned { tab, pinned } => fixed_write::put_int_flag(*tab, *pinned, out),
+            SessionCommand::Extension {
+                tab,
+                extension,
+                tail,
+            } => pickled_write::put_int_text(*tab, extension.as_slice(), tail.as_slice(), out),
             SessionCommand::WindowBounds { window, bounds } => fixed_write::put_window_bounds(
                 *window, *bounds, out,
+            ),
+            SessionCommand::WindowApp { window, name, tail } => pickled_write::put_int_text(
+                *window,
+                name.as_slice(),
+                tail.as_slice(),
+                out,
             ),
             SessionCommand::TabClosed { tab, time } => fixed_write::put_int_time(*tab, *time, out),
             SessionCommand::WindowClosed { window, time } => fixed_write::put_int_time(
                 *window, *time, out,
             ),
+            SessionCommand::SessionStorage { tab, storage, tail } => pickled_write::put_int_text(
+                *tab,
+                storage.as_slice(),
+                tail.as_slice(),
+                out,
+            ),
             SessionCommand::ActiveWindow { window } => fixed_write::put_int(*window, out),
             SessionCommand::LastActive { tab, time } => fixed_write::put_int_time(*tab, *time, out),
+            SessionCommand::Workspace {
+                window,
+                workspace,
+                tail,
+            } => pickled_write::put_int_text(*window, workspace.as_slice(), tail.as_slice(), out),
             SessionCommand::Pruned { tab, index, count } => fixed_write::put_three_ints(
                 *tab, *index, *count, out,
             ),
@@ -334,8 +525,48 @@ impl SessionCommand {
                 low,
                 grouped,
             } => fixed_write::put_tab_group(*tab, *high, *low, *grouped, out),
+            SessionCommand::TabGuid { tab, guid, tail } => pickled_write::put_int_text(
+                *tab,
+                guid.as_slice(),
+                tail.as_slice(),
+                out,
+            ),
+            SessionCommand::UserAgent { tab, rest } => pickled_write::put_int_rest(
+                *tab,
+                rest.as_slice(),
+                out,
+            ),
+            SessionCommand::UserTitle {
+                window,
+                title,
+                tail,
+            } => pickled_write::put_int_text(*window, title.as_slice(), tail.as_slice(), out),
             SessionCommand::AllWorkspaces { window, all } => fixed_write::put_int_flag(
                 *window, *all, out,
+            ),
+            SessionCommand::TabExtra {
+                tab,
+                key,
+                value,
+                tail,
+            } => pickled_write::put_int_two_texts(
+                *tab,
+                key.as_slice(),
+                value.as_slice(),
+                tail.as_slice(),
+                out,
+            ),
+            SessionCommand::WindowExtra {
+                window,
+                key,
+                value,
+                tail,
+            } => pickled_write::put_int_two_texts(
+                *window,
+                key.as_slice(),
+                value.as_slice(),
+                tail.as_slice(),
+                out,
             ),
             SessionCommand::Raw(raw) => out.extend_from_slice(raw.payload.as_slice()),
         }
@@ -370,9 +601,15 @@ impl SessionCommand {
             SessionCommand::Pinned { tab, pinned } => {
                 let (_tab, _pinned) = (*tab, *pinned);
             }
+            SessionCommand::Extension { tab, .. } => {
+                let _tab = *tab;
+            }
             SessionCommand::WindowBounds { window, bounds } => {
                 let (_window, _x, _y) = (*window, bounds.x, bounds.y);
                 let (_width, _height, _show) = (bounds.width, bounds.height, bounds.show);
+            }
+            SessionCommand::WindowApp { window, .. } => {
+                let _window = *window;
             }
             SessionCommand::TabClosed { tab, time } => {
                 let (_tab, _time) = (*tab, *time);
@@ -380,11 +617,17 @@ impl SessionCommand {
             SessionCommand::WindowClosed { window, time } => {
                 let (_window, _time) = (*window, *time);
             }
+            SessionCommand::SessionStorage { tab, .. } => {
+                let _tab = *tab;
+            }
             SessionCommand::ActiveWindow { window } => {
                 let _window = *window;
             }
             SessionCommand::LastActive { tab, time } => {
                 let (_tab, _time) = (*tab, *time);
+            }
+            SessionCommand::Workspace { window, .. } => {
+                let _window = *window;
             }
             SessionCommand::Pruned { tab, index, count } => {
                 let (_tab, _index, _count) = (*tab, *index, *count);
@@ -397,8 +640,23 @@ impl SessionCommand {
             } => {
                 let (_tab, _high, _low, _grouped) = (*tab, *high, *low, *grouped);
             }
+            SessionCommand::TabGuid { tab, .. } => {
+                let _tab = *tab;
+            }
+            SessionCommand::UserAgent { tab, .. } => {
+                let _tab = *tab;
+            }
+            SessionCommand::UserTitle { window, .. } => {
+                let _window = *window;
+            }
             SessionCommand::AllWorkspaces { window, all } => {
                 let (_window, _all) = (*window, *all);
+            }
+            SessionCommand::TabExtra { tab, .. } => {
+                let _tab = *tab;
+            }
+            SessionCommand::WindowExtra { window, .. } => {
+                let _window = *window;
             }
             SessionCommand::Raw(_) => {}
         }
@@ -443,10 +701,32 @@ impl SessionCommand {
                 tab: *tab,
                 pinned: *pinned,
             }),
+            SessionCommand::Extension {
+                tab,
+                extension,
+                tail,
+            } => {
+                let extension = extension.copy()?;
+                let tail = tail.copy()?;
+                Ok(SessionCommand::Extension {
+                    tab: *tab,
+                    extension,
+                    tail,
+                })
+            }
             SessionCommand::WindowBounds { window, bounds } => Ok(SessionCommand::WindowBounds {
                 window: *window,
                 bounds: *bounds,
             }),
+            SessionCommand::WindowApp { window, name, tail } => {
+                let name = name.copy()?;
+                let tail = tail.copy()?;
+                Ok(SessionCommand::WindowApp {
+                    window: *window,
+                    name,
+                    tail,
+                })
+            }
             SessionCommand::TabClosed { tab, time } => Ok(SessionCommand::TabClosed {
                 tab: *tab,
                 time: *time,
@@ -455,6 +735,15 @@ impl SessionCommand {
                 window: *window,
                 time: *time,
             }),
+            SessionCommand::SessionStorage { tab, storage, tail } => {
+                let storage = storage.copy()?;
+                let tail = tail.copy()?;
+                Ok(SessionCommand::SessionStorage {
+                    tab: *tab,
+                    storage,
+                    tail,
+                })
+            }
             SessionCommand::ActiveWindow { window } => Ok(SessionCommand::ActiveWindow {
                 window: *window,
             }),
@@ -462,6 +751,19 @@ impl SessionCommand {
                 tab: *tab,
                 time: *time,
             }),
+            SessionCommand::Workspace {
+                window,
+                workspace,
+                tail,
+            } => {
+                let workspace = workspace.copy()?;
+                let tail = tail.copy()?;
+                Ok(SessionCommand::Workspace {
+                    window: *window,
+                    workspace,
+                    tail,
+                })
+            }
             SessionCommand::Pruned { tab, index, count } => Ok(SessionCommand::Pruned {
                 tab: *tab,
                 index: *index,
@@ -478,10 +780,68 @@ impl SessionCommand {
                 low: *low,
                 grouped: *grouped,
             }),
+            SessionCommand::TabGuid { tab, guid, tail } => {
+                let guid = guid.copy()?;
+                let tail = tail.copy()?;
+                Ok(SessionCommand::TabGuid {
+                    tab: *tab,
+                    guid,
+                    tail,
+                })
+            }
+            SessionCommand::UserAgent { tab, rest } => {
+                let rest = rest.copy()?;
+                Ok(SessionCommand::UserAgent { tab: *tab, rest })
+            }
+            SessionCommand::UserTitle {
+                window,
+                title,
+                tail,
+            } => {
+                let title = title.copy()?;
+                let tail = tail.copy()?;
+                Ok(SessionCommand::UserTitle {
+                    window: *window,
+                    title,
+                    tail,
+                })
+            }
             SessionCommand::AllWorkspaces { window, all } => Ok(SessionCommand::AllWorkspaces {
                 window: *window,
                 all: *all,
             }),
+            SessionCommand::TabExtra {
+                tab,
+                key,
+                value,
+                tail,
+            } => {
+                let key = key.copy()?;
+                let value = value.copy()?;
+                let tail = tail.copy()?;
+                Ok(SessionCommand::TabExtra {
+                    tab: *tab,
+                    key,
+                    value,
+                    tail,
+                })
+            }
+            SessionCommand::WindowExtra {
+                window,
+                key,
+                value,
+                tail,
+            } => {
+                let key = key.copy()?;
+                let value = value.copy()?;
+                let tail = tail.copy()?;
+                Ok(SessionCommand::WindowExtra {
+                    window: *window,
+                    key,
+                    value,
+                    tail,
+                })
+            }
             SessionCommand::Raw(raw) => Ok(SessionCommand::Raw(raw.copy()?)),
         }
     }

@@ -103,7 +103,7 @@ pub(crate) fn put_tab_group(
 }
 
 #[tactic(auto, unfolding(pickle_cells::specs::Cell::int))]
-fn int_bytes(a: i32) -> [u8; 4]
+pub(crate) fn int_bytes(a: i32) -> [u8; 4]
     ensures { result ≡ int a }
 {
     a.cast_unsigned().to_le_bytes()

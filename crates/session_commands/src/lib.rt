@@ -7,6 +7,8 @@ mod command;
 mod fault;
 mod fixed;
 mod fixed_write;
+mod pickled;
+mod pickled_write;
 mod raw;
 
 pub use bounds::Bounds;

@@ -1,0 +1,218 @@
+-- The table read backwards: the command of an id and a layout. So a row is no other command's, and a layout of an id's
+-- shape is some command's.
+use Rattle.std.proofs.Common.{◌≡◌, ℕ, ℤ, Bool, true, eqb, List, [], ◌∷◌, Option, Some, None, subst, refl, sym, ◌∙◌, inl, inr}
+use Rattle.std.specs.Prelude.{if◌then◌else◌, ◌==◌}
+use Rattle.std.proofs.lemmas.Bool.{eqb-true, cases_Bool}
+use Rattle.pickle_cells.specs.Layout.{Int, Int64, Uint64, Flag, Free}
+use Rattle.pickle_cells.specs.PickleLayout.{Int as IntItem, Text as TextItem}
+use Rattle.session_commands.specs.Layouts.{Layout, Fixed, Pickled, Shape, shape, IsWhole}
+use Rattle.session_commands.specs.Faults.{shape_of, int_shape, two_ints_shape, three_ints_shape, six_ints_shape, int_flag_shape, int_time_shape, tab_group_shape, int_rest_shape, int_text_shape, int_two_texts_shape}
+use Rattle.session_commands.specs.Table.{Row, Known, Kept, row}
+use Rattle.session_commands.specs.declared.bounds.Bounds.{Bounds}
+use Rattle.session_commands.specs.declared.command.SessionCommand.{SessionCommand}
+use Rattle.session_commands.specs.declared.command.SessionCommand.TheVariants.{TabWindow, TabIndex, PrunedBack, SelectNavigation, SelectTab, WindowKind, PrunedFront, Pinned, Extension, WindowBounds, WindowApp, TabClosed, WindowClosed, SessionStorage, ActiveWindow, LastActive, Workspace, Pruned, TabGroup, TabGuid, UserAgent, UserTitle, AllWorkspaces, TabExtra, WindowExtra, Raw}
+use Rattle.session_commands.proofs.LayoutLaws.{is_short}
+
+abbrev Maker : Type 0
+Maker = (layout : Layout) → IsWhole layout → Option SessionCommand
+
+abbrev of_int : (ℤ → SessionCommand) → Maker
+of_int f (Fixed (Int a ∷ [])) whole = Some (f a)
+of_int f _ whole = None
+
+abbrev of_two_ints : (ℤ → ℤ → SessionCommand) → Maker
+of_two_ints f (Fixed (Int a ∷ Int b ∷ [])) whole = Some (f a b)
+of_two_ints f _ whole = None
+
+abbrev of_three_ints : (ℤ → ℤ → ℤ → SessionCommand) → Maker
+of_three_ints f (Fixed (Int a ∷ Int b ∷ Int c ∷ [])) whole = Some (f a b c)
+of_three_ints f _ whole = None
+
+abbrev of_six_ints : (ℤ → Bounds → SessionCommand) → Maker
+of_six_ints f (Fixed (Int a ∷ Int b ∷ Int c ∷ Int d ∷ Int e ∷ Int g ∷ [])) whole =
+    Some (f a (record { x = b; y = c; width = d; height = e; show = g }))
+of_six_ints f _ whole = None
+
+abbrev of_int_flag : (ℤ → Bool → SessionCommand) → Maker
+of_int_flag f (Fixed (Int a ∷ Flag b ∷ Free n ∷ [])) whole = Some (f a b)
+of_int_flag f _ whole = None
+
+abbrev of_int_time : (ℤ → ℤ → SessionCommand) → Maker
+of_int_time f (Fixed (Int a ∷ Free n ∷ Int64 t ∷ [])) whole = Some (f a t)
+of_int_time f _ whole = None
+
+abbrev of_tab_group : (ℤ → ℕ → ℕ → Bool → SessionCommand) → Maker
+of_tab_group f (Fixed (Int a ∷ Free n ∷ Uint64 h ∷ Uint64 l ∷ Flag b ∷ Free m ∷ [])) whole = Some (f a h l b)
+of_tab_group f _ whole = None
+
+abbrev of_int_rest : (ℤ → List ℕ → SessionCommand) → Maker
+of_int_rest f (Pickled (IntItem a ∷ []) tail) whole = Some (f a tail)
+of_int_rest f _ whole = None
+
+abbrev of_int_text : (ℤ → List ℕ → List ℕ → SessionCommand) → Maker
+of_int_text f (Pickled (IntItem a ∷ TextItem t ∷ []) tail) whole = Some (f a t tail)
+of_int_text f _ whole = None
+
+abbrev of_int_two_texts : (ℤ → List ℕ → List ℕ → List ℕ → SessionCommand) → Maker
+of_int_two_texts f (Pickled (IntItem a ∷ TextItem t ∷ TextItem u ∷ []) tail) whole = Some (f a t u tail)
+of_int_two_texts f _ whole = None
+
+-- the command whose row has this id and this layout
+abbrev command_of : ℕ → Maker
+command_of id layout whole =
+    if id == 0 then of_two_ints (λ a b. TabWindow a b) layout whole else
+    (if id == 2 then of_two_ints (λ a b. TabIndex a b) layout whole else
+    (if id == 5 then of_two_ints (λ a b. PrunedBack a b) layout whole else
+    (if id == 7 then of_two_ints (λ a b. SelectNavigation a b) layout whole else
+    (if id == 8 then of_two_ints (λ a b. SelectTab a b) layout whole else
+    (if id == 9 then of_two_ints (λ a b. WindowKind a b) layout whole else
+    (if id == 11 then of_two_ints (λ a b. PrunedFront a b) layout whole else
+    (if id == 12 then of_int_flag (λ a b. Pinned a b) layout whole else
+    (if id == 13 then of_int_text (λ a t tail. Extension a t tail) layout whole else
+    (if id == 14 then of_six_ints (λ a b. WindowBounds a b) layout whole else
+    (if id == 15 then of_int_text (λ a t tail. WindowApp a t tail) layout whole else
+    (if id == 16 then of_int_time (λ a t. TabClosed a t) layout whole else
+    (if id == 17 then of_int_time (λ a t. WindowClosed a t) layout whole else
+    (if id == 19 then of_int_text (λ a t tail. SessionStorage a t tail) layout whole else
+    (if id == 20 then of_int (λ a. ActiveWindow a) layout whole else
+    (if id == 21 then of_int_time (λ a t. LastActive a t) layout whole else
+    (if id == 23 then of_int_text (λ a t tail. Workspace a t tail) layout whole else
+    (if id == 24 then of_three_ints (λ a b c. Pruned a b c) layout whole else
+    (if id == 25 then of_tab_group (λ a h l b. TabGroup a h l b) layout whole else
+    (if id == 28 then of_int_text (λ a t tail. TabGuid a t tail) layout whole else
+    (if id == 29 then of_int_rest (λ a tail. UserAgent a tail) layout whole else
+    (if id == 31 then of_int_text (λ a t tail. UserTitle a t tail) layout whole else
+    (if id == 32 then of_int_flag (λ a b. AllWorkspaces a b) layout whole else
+    (if id == 33 then of_int_two_texts (λ a t u tail. TabExtra a t u tail) layout whole else
+    (if id == 34 then of_int_two_texts (λ a t u tail. WindowExtra a t u tail) layout whole else None))))))))))))))))))))))))
+
+-- The table says one thing for a command: its row has the shape of its id, and is no other's.
+abbrev pub Joined : SessionCommand → Row → Type 0
+Joined c (Known id layout) =
+    (shape_of id ≡ Some (shape layout)) × ((whole : IsWhole layout) → command_of id layout whole ≡ Some c) × (is_short (shape layout) ≡ true)
+Joined c (Kept raw) = c ≡ Raw raw
+
+pub joined : (c : SessionCommand) → Joined c (row c)
+joined (TabWindow window tab) = (refl, (λ _. refl), refl)
+joined (TabIndex tab index) = (refl, (λ _. refl), refl)
+joined (PrunedBack tab index) = (refl, (λ _. refl), refl)
+joined (SelectNavigation tab index) = (refl, (λ _. refl), refl)
+joined (SelectTab window index) = (refl, (λ _. refl), refl)
+joined (WindowKind window kind) = (refl, (λ _. refl), refl)
+joined (PrunedFront tab count) = (refl, (λ _. refl), refl)
+joined (Pinned tab pinned) = (refl, (λ _. refl), refl)
+joined (Extension tab extension tail) = (refl, (λ _. refl), refl)
+joined (WindowBounds window bounds) = (refl, (λ _. refl), refl)
+joined (WindowApp window name tail) = (refl, (λ _. refl), refl)
+joined (TabClosed tab time) = (refl, (λ _. refl), refl)
+joined (WindowClosed window time) = (refl, (λ _. refl), refl)
+joined (SessionStorage tab storage tail) = (refl, (λ _. refl), refl)
+joined (ActiveWindow window) = (refl, (λ _. refl), refl)
+joined (LastActive tab time) = (refl, (λ _. refl), refl)
+joined (Workspace window workspace tail) = (refl, (λ _. refl), refl)
+joined (Pruned tab index count) = (refl, (λ _. refl), refl)
+joined (TabGroup tab high low grouped) = (refl, (λ _. refl), refl)
+joined (TabGuid tab guid tail) = (refl, (λ _. refl), refl)
+joined (UserAgent tab rest) = (refl, (λ _. refl), refl)
+joined (UserTitle window title tail) = (refl, (λ _. refl), refl)
+joined (AllWorkspaces window all) = (refl, (λ _. refl), refl)
+joined (TabExtra tab key value tail) = (refl, (λ _. refl), refl)
+joined (WindowExtra window key value tail) = (refl, (λ _. refl), refl)
+joined (Raw raw) = refl
+
+-- a row is no other command's
+pub row_injective : (c d : SessionCommand) (i j : ℕ) (l m : Layout) → IsWhole l → Joined c (Known i l) → Joined d (Known j m) → i ≡ j → l ≡ m → d ≡ c
+row_injective c d i j l m whole p q same layout =
+    let at_l = subst (λ (x : Layout). (whole' : IsWhole x) → command_of j x whole' ≡ Some d) (sym layout) q.1 in
+    let at_i = subst (λ (x : ℕ). command_of x l whole ≡ Some d) (sym same) (at_l whole) in
+    let both : Some c ≡ Some d = sym (p.1 whole) ∙ at_i in cc
+
+-- ---- a layout of an id's shape is some command's
+
+-- the command of a row with this layout
+abbrev pub RowOf : ℕ → Layout → Type 0
+RowOf id layout = (c : SessionCommand) × (row c ≡ Known id layout)
+
+int_row : (id : ℕ) (f : ℤ → SessionCommand) → ((a : ℤ) → row (f a) ≡ Known id (Fixed (Int a ∷ []))) → (layout : Layout) → IsWhole layout → int_shape ≡ shape layout → RowOf id layout
+int_row id f is (Fixed (Int a ∷ [])) whole e = (f a, is a)
+int_row id f is _ whole e = absurd cc
+
+two_ints_row : (id : ℕ) (f : ℤ → ℤ → SessionCommand) → ((a b : ℤ) → row (f a b) ≡ Known id (Fixed (Int a ∷ Int b ∷ []))) → (layout : Layout) → IsWhole layout → two_ints_shape ≡ shape layout → RowOf id layout
+two_ints_row id f is (Fixed (Int a ∷ Int b ∷ [])) whole e = (f a b, is a b)
+two_ints_row id f is _ whole e = absurd cc
+
+three_ints_row : (id : ℕ) (f : ℤ → ℤ → ℤ → SessionCommand) → ((a b c : ℤ) → row (f a b c) ≡ Known id (Fixed (Int a ∷ Int b ∷ Int c ∷ []))) → (layout : Layout) → IsWhole layout → three_ints_shape ≡ shape layout → RowOf id layout
+three_ints_row id f is (Fixed (Int a ∷ Int b ∷ Int c ∷ [])) whole e = (f a b c, is a b c)
+three_ints_row id f is _ whole e = absurd cc
+
+six_ints_row : (id : ℕ) (f : ℤ → Bounds → SessionCommand) →
+    ((a : ℤ) (b : Bounds) → row (f a b) ≡ Known id (Fixed (Int a ∷ Int b.x ∷ Int b.y ∷ Int b.width ∷ Int b.height ∷ Int b.show ∷ []))) → (layout : Layout) → IsWhole layout → six_ints_shape ≡ shape layout → RowOf id layout
+six_ints_row id f is (Fixed (Int a ∷ Int b ∷ Int c ∷ Int d ∷ Int e ∷ Int g ∷ [])) whole _ =
+    let bounds : Bounds = record { x = b; y = c; width = d; height = e; show = g } in (f a bounds, is a bounds)
+six_ints_row id f is _ whole e = absurd cc
+
+int_flag_row : (id : ℕ) (f : ℤ → Bool → SessionCommand) → ((a : ℤ) (b : Bool) → row (f a b) ≡ Known id (Fixed (Int a ∷ Flag b ∷ Free 3 ∷ []))) → (layout : Layout) → IsWhole layout → int_flag_shape ≡ shape layout → RowOf id layout
+int_flag_row id f is (Fixed (Int a ∷ Flag b ∷ Free n ∷ [])) whole e = let three : 3 ≡ n = cc in (f a b, is a b ∙ cc)
+int_flag_row id f is _ whole e = absurd cc
+
+int_time_row : (id : ℕ) (f : ℤ → ℤ → SessionCommand) → ((a t : ℤ) → row (f a t) ≡ Known id (Fixed (Int a ∷ Free 4 ∷ Int64 t ∷ []))) → (layout : Layout) → IsWhole layout → int_time_shape ≡ shape layout → RowOf id layout
+int_time_row id f is (Fixed (Int a ∷ Free n ∷ Int64 t ∷ [])) whole e = let four : 4 ≡ n = cc in (f a t, is a t ∙ cc)
+int_time_row id f is _ whole e = absurd cc
+
+tab_group_row : (id : ℕ) (f : ℤ → ℕ → ℕ → Bool → SessionCommand) →
+    ((a : ℤ) (h l : ℕ) (b : Bool) → row (f a h l b) ≡ Known id (Fixed (Int a ∷ Free 4 ∷ Uint64 h ∷ Uint64 l ∷ Flag b ∷ Free 7 ∷ []))) → (layout : Layout) → IsWhole layout → tab_group_shape ≡ shape layout → RowOf id layout
+tab_group_row id f is (Fixed (Int a ∷ Free n ∷ Uint64 h ∷ Uint64 l ∷ Flag b ∷ Free m ∷ [])) whole e =
+    let four : 4 ≡ n = cc in let seven : 7 ≡ m = cc in (f a h l b, is a h l b ∙ cc)
+tab_group_row id f is _ whole e = absurd cc
+
+int_rest_row : (id : ℕ) (f : ℤ → List ℕ → SessionCommand) → ((a : ℤ) (tail : List ℕ) → row (f a tail) ≡ Known id (Pickled (IntItem a ∷ []) tail)) → (layout : Layout) → IsWhole layout → int_rest_shape ≡ shape layout → RowOf id layout
+int_rest_row id f is (Pickled (IntItem a ∷ []) tail) whole e = (f a tail, is a tail)
+int_rest_row id f is _ whole e = absurd cc
+
+int_text_row : (id : ℕ) (f : ℤ → List ℕ → List ℕ → SessionCommand) → ((a : ℤ) (t tail : List ℕ) → row (f a t tail) ≡ Known id (Pickled (IntItem a ∷ TextItem t ∷ []) tail)) → (layout : Layout) → IsWhole layout → int_text_shape ≡ shape layout → RowOf id layout
+int_text_row id f is (Pickled (IntItem a ∷ TextItem t ∷ []) tail) whole e = (f a t tail, is a t tail)
+int_text_row id f is _ whole e = absurd cc
+
+int_two_texts_row : (id : ℕ) (f : ℤ → List ℕ → List ℕ → List ℕ → SessionCommand) → ((a : ℤ) (t u tail : List ℕ) → row (f a t u tail) ≡ Known id (Pickled (IntItem a ∷ TextItem t ∷ TextItem u ∷ []) tail)) → (layout : Layout) → IsWhole layout → int_two_texts_shape ≡ shape layout → RowOf id layout
+int_two_texts_row id f is (Pickled (IntItem a ∷ TextItem t ∷ TextItem u ∷ []) tail) whole e = (f a t u tail, is a t u tail)
+int_two_texts_row id f is _ whole e = absurd cc
+
+-- one line of the table: where the id is its own the payload has its shape, else a later line holds
+at_id : {R : Type 0} (own id : ℕ) (s : Shape) (later r : Option Shape) → (if id == own then Some s else later) ≡ r → (own ≡ id → Some s ≡ r → R) → (later ≡ r → R) → R
+at_id own id s later r e here there =
+    elim (cases_Bool (eqb id own)) [
+      | inl same ↦ here (sym (eqb-true id own same)) (rw same at e)
+      | inr apart ↦ there (rw apart at e)
+    ]
+
+row_of_id : (layout : Layout) (own id : ℕ) (s : Shape) → IsWhole layout → ((l : Layout) → IsWhole l → s ≡ shape l → RowOf own l) → own ≡ id → Some s ≡ Some (shape layout) → RowOf id layout
+row_of_id layout own id s whole found same e = subst (λ (x : ℕ). RowOf x layout) same (found layout whole (cc))
+
+pub row_of_shape : (id : ℕ) (layout : Layout) → IsWhole layout → shape_of id ≡ Some (shape layout) → RowOf id layout
+row_of_shape id layout whole e0 =
+    at_id 0 id _ _ _ e0 (row_of_id layout 0 id _ whole (two_ints_row 0 (λ a b. TabWindow a b) (λ a b. refl))) (λ e1.
+    at_id 2 id _ _ _ e1 (row_of_id layout 2 id _ whole (two_ints_row 2 (λ a b. TabIndex a b) (λ a b. refl))) (λ e2.
+    at_id 5 id _ _ _ e2 (row_of_id layout 5 id _ whole (two_ints_row 5 (λ a b. PrunedBack a b) (λ a b. refl))) (λ e3.
+    at_id 7 id _ _ _ e3 (row_of_id layout 7 id _ whole (two_ints_row 7 (λ a b. SelectNavigation a b) (λ a b. refl))) (λ e4.
+    at_id 8 id _ _ _ e4 (row_of_id layout 8 id _ whole (two_ints_row 8 (λ a b. SelectTab a b) (λ a b. refl))) (λ e5.
+    at_id 9 id _ _ _ e5 (row_of_id layout 9 id _ whole (two_ints_row 9 (λ a b. WindowKind a b) (λ a b. refl))) (λ e6.
+    at_id 11 id _ _ _ e6 (row_of_id layout 11 id _ whole (two_ints_row 11 (λ a b. PrunedFront a b) (λ a b. refl))) (λ e7.
+    at_id 12 id _ _ _ e7 (row_of_id layout 12 id _ whole (int_flag_row 12 (λ a b. Pinned a b) (λ a b. refl))) (λ e8.
+    at_id 13 id _ _ _ e8 (row_of_id layout 13 id _ whole (int_text_row 13 (λ a t tail. Extension a t tail) (λ a t tail. refl))) (λ e9.
+    at_id 14 id _ _ _ e9 (row_of_id layout 14 id _ whole (six_ints_row 14 (λ a b. WindowBounds a b) (λ a b. refl))) (λ e10.
+    at_id 15 id _ _ _ e10 (row_of_id layout 15 id _ whole (int_text_row 15 (λ a t tail. WindowApp a t tail) (λ a t tail. refl))) (λ e11.
+    at_id 16 id _ _ _ e11 (row_of_id layout 16 id _ whole (int_time_row 16 (λ a t. TabClosed a t) (λ a t. refl))) (λ e12.
+    at_id 17 id _ _ _ e12 (row_of_id layout 17 id _ whole (int_time_row 17 (λ a t. WindowClosed a t) (λ a t. refl))) (λ e13.
+    at_id 19 id _ _ _ e13 (row_of_id layout 19 id _ whole (int_text_row 19 (λ a t tail. SessionStorage a t tail) (λ a t tail. refl))) (λ e14.
+    at_id 20 id _ _ _ e14 (row_of_id layout 20 id _ whole (int_row 20 (λ a. ActiveWindow a) (λ a. refl))) (λ e15.
+    at_id 21 id _ _ _ e15 (row_of_id layout 21 id _ whole (int_time_row 21 (λ a t. LastActive a t) (λ a t. refl))) (λ e16.
+    at_id 23 id _ _ _ e16 (row_of_id layout 23 id _ whole (int_text_row 23 (λ a t tail. Workspace a t tail) (λ a t tail. refl))) (λ e17.
+    at_id 24 id _ _ _ e17 (row_of_id layout 24 id _ whole (three_ints_row 24 (λ a b c. Pruned a b c) (λ a b c. refl))) (λ e18.
+    at_id 25 id _ _ _ e18 (row_of_id layout 25 id _ whole (tab_group_row 25 (λ a h l b. TabGroup a h l b) (λ a h l b. refl))) (λ e19.
+    at_id 28 id _ _ _ e19 (row_of_id layout 28 id _ whole (int_text_row 28 (λ a t tail. TabGuid a t tail) (λ a t tail. refl))) (λ e20.
+    at_id 29 id _ _ _ e20 (row_of_id layout 29 id _ whole (int_rest_row 29 (λ a tail. UserAgent a tail) (λ a tail. refl))) (λ e21.
+    at_id 31 id _ _ _ e21 (row_of_id layout 31 id _ whole (int_text_row 31 (λ a t tail. UserTitle a t tail) (λ a t tail. refl))) (λ e22.
+    at_id 32 id _ _ _ e22 (row_of_id layout 32 id _ whole (int_flag_row 32 (λ a b. AllWorkspaces a b) (λ a b. refl))) (λ e23.
+    at_id 33 id _ _ _ e23 (row_of_id layout 33 id _ whole (int_two_texts_row 33 (λ a t u tail. TabExtra a t u tail) (λ a t u tail. refl))) (λ e24.
+    at_id 34 id _ _ _ e24 (row_of_id layout 34 id _ whole (int_two_texts_row 34 (λ a t u tail. WindowExtra a t u tail) (λ a t u tail. refl))) (λ e25.
+    absurd cc)))))))))))))))))))))))))

@@ -1,0 +1,105 @@
+//! Payloads that are a pickle, one writer a shape. Each grows the bytes at most once, and leaves them as they were
+//! where memory is short.
+ghost use Rattle.std.specs.Prelude.{◌≡◌, ◌+◌, ◌%◌, ◌<◌, ◌≤◌, ◌^◌, [], ◌∷◌, ◌++◌, length, IsOk, OnOk, OnErr};
+ghost use Rattle.std.specs.Vec.{vec_len, vec_capacity};
+ghost use Rattle.pickle_cells.specs.Cell.{int, uint32, string, string_size};
+ghost use Rattle.pickle_cells.specs.PickleLayout.{Int, Text, pickled_bytes, pickled_size};
+
+use crate::fixed_write::int_bytes;
+use std::alloc::AllocError;
+
+/// A number and what follows it.
+#[tactic(auto, using(crate::proofs::WriteLaws::int_rest_bytes))]
+pub(crate) fn put_int_rest(number: i32, rest: &[u8], out: &mut Vec<u8>) -> Result<(), AllocError>
+    requires whole { length rest.now % 4 ≡ 0 }
+    requires short { pickled_size (Int number ∷ []) rest.now ≤ 65534 }
+    ensures ok { OnOk result (out.new.items ≡ out.old.items ++ pickled_bytes (Int number ∷ []) rest.now) }
+    ensures err { OnErr result (out.new.items ≡ out.old.items) }
+{
+    let size = 4 + rest.len();
+    out.reserve(4 + size)?;
+    out.extend_from_slice(&size_bytes(size))?;
+    out.extend_from_slice(&int_bytes(number))?;
+    out.extend_from_slice(rest)?;
+    Ok(())
+}
+
+/// A number and a string.
+#[tactic(auto, using(crate::proofs::WriteLaws::int_text_bytes))]
+pub(crate) fn put_int_text(
+    number: i32,
+    text: &[u8],
+    tail: &[u8],
+    out: &mut Vec<u8>,
+) -> Result<(), AllocError>
+    requires whole { length tail.now % 4 ≡ 0 }
+    requires short { pickled_size (Int number ∷ Text text.now ∷ []) tail.now ≤ 65534 }
+    ensures ok { OnOk result (out.new.items ≡ out.old.items ++ pickled_bytes (Int number ∷ Text text.now ∷ []) tail.now) }
+    ensures err { OnErr result (out.new.items ≡ out.old.items) }
+{
+    let size = 4 + cell_size(text.len()) + tail.len();
+    out.reserve(4 + size)?;
+    out.extend_from_slice(&size_bytes(size))?;
+    out.extend_from_slice(&int_bytes(number))?;
+    put_string(text, out)?;
+    out.extend_from_slice(tail)?;
+    Ok(())
+}
+
+/// A number and two strings.
+#[tactic(auto, using(crate::proofs::WriteLaws::int_two_texts_bytes))]
+pub(crate) fn put_int_two_texts(
+    number: i32,
+    first: &[u8],
+    second: &[u8],
+    tail: &[u8],
+    out: &mut Vec<u8>,
+) -> Result<(), AllocError>
+    requires whole { length tail.now % 4 ≡ 0 }
+    requires short { pickled_size (Int number ∷ Text first.now ∷ Text second.now ∷ []) tail.now ≤ 65534 }
+    ensures ok { OnOk result (out.new.items ≡ out.old.items ++ pickled_bytes (Int number ∷ Text first.now ∷ Text second.now ∷ []) tail.now) }
+    ensures err { OnErr result (out.new.items ≡ out.old.items) }
+{
+    let size = 4 + cell_size(first.len()) + cell_size(second.len()) + tail.len();
+    out.reserve(4 + size)?;
+    out.extend_from_slice(&size_bytes(size))?;
+    out.extend_from_slice(&int_bytes(number))?;
+    put_string(first, out)?;
+    put_string(second, out)?;
+    out.extend_from_slice(tail)?;
+    Ok(())
+}
+
+// The bytes of a string's cell of so many bytes of text.
+#[tactic(auto, unfolding(pickle_cells::specs::Cell::padding))]
+fn cell_size(text: usize) -> usize
+    requires { text < 2 ^ 32 }
+    ensures { result ≡ string_size text }
+{
+    4 + text + (4 - text % 4) % 4
+}
+
+#[tactic(auto, unfolding(pickle_cells::specs::Cell::uint32))]
+fn size_bytes(size: usize) -> [u8; 4]
+    requires { size < 2 ^ 32 }
+    ensures { result ≡ uint32 size }
+{
+    (size as u32).to_le_bytes()
+}
+
+// The room is there, so that the call can't fail.
+#[tactic(auto, unfolding(pickle_cells::specs::Cell::counted, pickle_cells::specs::Cell::int, pickle_cells::specs::Cell::padding))]
+fn put_string(text: &[u8], out: &mut Vec<u8>) -> Result<(), AllocError>
+    requires size { length text.now < 2 ^ 31 }
+    requires room { vec_len out.old + string_size (length text.now) ≤ vec_capacity out.old }
+    ensures done { IsOk result }
+    ensures written { out.new.items ≡ out.old.items ++ string text.now }
+    ensures len { vec_len out.new ≡ vec_len out.old + string_size (length text.now) }
+    ensures room { vec_capacity out.old ≤ vec_capacity out.new }
+{
+    let padding = (4 - text.len() % 4) % 4;
+    out.extend_from_slice(&(text.len() as u32).to_le_bytes())?;
+    out.extend_from_slice(text)?;
+    out.resize(out.len() + padding, 0)?;
+    Ok(())
+}
