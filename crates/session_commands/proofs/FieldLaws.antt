@@ -10,7 +10,7 @@ use Rattle.std.proofs.lemmas.Bool.{cases_lt}
 use Rattle.pickle_cells.specs.Cell.{int, int64, uint64}
 use Rattle.pickle_cells.specs.Layout.{Field, Int, Int64, Uint64, Flag, Free, IsField, AreFields, field_bytes, fields_bytes}
 use Rattle.session_commands.specs.FixedReading.{FieldKind, IntField, Int64Field, Uint64Field, FlagField, FreeField, field_kind, field_width, width, int_at, int64_at, uint64_at, flag_at, field_at, fields_at}
-use Rattle.session_commands.specs.Layouts.{FitsField}
+use Rattle.session_commands.specs.PayloadLayout.{FitsField}
 
 -- each is a byte, as a slice's are
 abbrev pub AreBytes : List ℕ → Type 0

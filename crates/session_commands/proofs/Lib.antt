@@ -4,3 +4,4 @@ pub mod LayoutLaws
 pub mod RowLaws
 pub mod TableLaws
 pub mod WriteLaws
+pub mod PickledLaws

@@ -1,16 +1,24 @@
 -- The table read backwards: the command of an id and a layout. So a row is no other command's, and a layout of an id's
 -- shape is some command's.
-use Rattle.std.proofs.Common.{◌≡◌, ℕ, ℤ, Bool, true, eqb, List, [], ◌∷◌, Option, Some, None, subst, refl, sym, ◌∙◌, inl, inr}
+use Rattle.std.proofs.Common.{◌≡◌, ℕ, ℤ, ◌+◌, ◌*◌, ◌%◌, ◌≤◌, Bool, true, eqb, List, [], ◌∷◌, length, map, Option, Some, None, subst, refl, sym, ap, ◌∙◌, inl, inr, arith}
 use Rattle.std.specs.Prelude.{if◌then◌else◌, ◌==◌}
 use Rattle.std.proofs.lemmas.Bool.{eqb-true, cases_Bool}
-use Rattle.pickle_cells.specs.Layout.{Int, Int64, Uint64, Flag, Free}
-use Rattle.pickle_cells.specs.PickleLayout.{Int as IntItem, Text as TextItem}
-use Rattle.session_commands.specs.Layouts.{Layout, Fixed, Pickled, Shape, shape, IsWhole}
-use Rattle.session_commands.specs.Faults.{shape_of, int_shape, two_ints_shape, three_ints_shape, six_ints_shape, int_flag_shape, int_time_shape, tab_group_shape, int_rest_shape, int_text_shape, int_two_texts_shape}
+use Rattle.std.proofs.Props.{props}
+use Rattle.pickle_cells.specs.Cell.{padding, string_size}
+use Rattle.pickle_cells.specs.Layout.{Field, Int, Int64, Uint64, Flag, Free}
+use Rattle.pickle_cells.specs.PickleLayout.{Item, Int as IntItem, Uint32 as Uint32Item, Uint64 as Uint64Item, Text as TextItem, Units as UnitsItem, kind_of, pickled_size}
+use Rattle.session_commands.specs.FixedReading.{FieldKind, IntField, Int64Field, Uint64Field, FlagField, FreeField, field_kind}
+use Rattle.session_commands.specs.PayloadLayout.{Layout, Fixed, Pickled, Shape, FixedShape, PickledShape, shape, IsWhole}
+use Rattle.session_commands.specs.Faults.{shape_of, int_shape, two_ints_shape, three_ints_shape, six_ints_shape, int_flag_shape, int_time_shape, tab_group_shape, int_rest_shape, int_text_shape, int_two_texts_shape, navigation_shape, group_shape}
 use Rattle.session_commands.specs.Table.{Row, Known, Kept, row}
-use Rattle.session_commands.specs.declared.bounds.Bounds.{Bounds}
+use Rattle.navigation_entry.specs.declared.bounds.Bounds.{Bounds}
+use Rattle.navigation_entry.specs.declared.navigation.Navigation.{Navigation}
+use Rattle.navigation_entry.specs.Layouts.{navigation_items, navigation_kinds, navigation_size}
+use Rattle.navigation_entry.specs.declared.group.GroupInfo.{GroupInfo}
+use Rattle.navigation_entry.specs.Layouts.{group_items, group_kinds, group_size}
+use Rattle.session_commands.specs.declared.raw.RawCommand.{RawCommand}
 use Rattle.session_commands.specs.declared.command.SessionCommand.{SessionCommand}
-use Rattle.session_commands.specs.declared.command.SessionCommand.TheVariants.{TabWindow, TabIndex, PrunedBack, SelectNavigation, SelectTab, WindowKind, PrunedFront, Pinned, Extension, WindowBounds, WindowApp, TabClosed, WindowClosed, SessionStorage, ActiveWindow, LastActive, Workspace, Pruned, TabGroup, TabGuid, UserAgent, UserTitle, AllWorkspaces, TabExtra, WindowExtra, Raw}
+use Rattle.session_commands.specs.declared.command.SessionCommand.TheVariants.{TabWindow, TabIndex, PrunedBack, UpdateNavigation, SelectNavigation, SelectTab, WindowKind, PrunedFront, Pinned, Extension, WindowBounds, WindowApp, TabClosed, WindowClosed, SessionStorage, ActiveWindow, LastActive, Workspace, Pruned, TabGroup, GroupData, TabGuid, UserAgent, UserTitle, AllWorkspaces, TabExtra, WindowExtra, Raw}
 use Rattle.session_commands.proofs.LayoutLaws.{is_short}
 
 abbrev Maker : Type 0
@@ -57,12 +65,55 @@ abbrev of_int_two_texts : (ℤ → List ℕ → List ℕ → List ℕ → Sessio
 of_int_two_texts f (Pickled (IntItem a ∷ TextItem t ∷ TextItem u ∷ []) tail) whole = Some (f a t u tail)
 of_int_two_texts f _ whole = None
 
+-- a navigation is its texts, its transition and its rest
+abbrev NavigationFacts : List ℕ → List ℕ → List ℕ → List ℕ → Type 0
+NavigationFacts url title page_state rest = (length rest % 4 ≡ 0) × (navigation_size (length url) (2 * length title) (length page_state) (length rest) ≤ 65534)
+
+NavigationFacts-prop : (url title page_state rest : List ℕ) → IsProp (NavigationFacts url title page_state rest)
+NavigationFacts-prop url title page_state rest = hlevel props
+
+abbrev navigation_of : (url title page_state : List ℕ) (transition : ℤ) (rest : List ℕ) → NavigationFacts url title page_state rest → Navigation
+navigation_of url title page_state transition rest h = record { url = url; title = title; page_state = page_state; transition = transition; rest = rest; whole = h.0; short = h.1 }
+
+pub navigation_facts : (tab index : ℤ) (url title page_state : List ℕ) (transition : ℤ) (rest : List ℕ) → IsWhole (Pickled (navigation_items tab index url title page_state transition) rest) → NavigationFacts url title page_state rest
+navigation_facts tab index url title page_state transition rest whole = (whole.0, omega (arith, whole.1))
+
+abbrev of_navigation : (ℤ → ℤ → Navigation → SessionCommand) → Maker
+of_navigation f (Pickled (IntItem a ∷ IntItem b ∷ TextItem u ∷ UnitsItem t ∷ TextItem p ∷ IntItem c ∷ []) rest) whole =
+    Some (f a b (navigation_of u t p c rest (navigation_facts a b u t p c rest whole)))
+of_navigation f _ whole = None
+
+navigation_same : (n : Navigation) (h : NavigationFacts n.url n.title n.page_state n.rest) → navigation_of n.url n.title n.page_state n.transition n.rest h ≡ n
+navigation_same n h = ap (navigation_of n.url n.title n.page_state n.transition n.rest) (NavigationFacts-prop n.url n.title n.page_state n.rest h (n.whole, n.short))
+
+-- a group is its token, its title, its colour and its rest
+abbrev GroupFacts : List ℕ → List ℕ → Type 0
+GroupFacts title rest = (length rest % 4 ≡ 0) × (group_size (2 * length title) (length rest) ≤ 65534)
+
+GroupFacts-prop : (title rest : List ℕ) → IsProp (GroupFacts title rest)
+GroupFacts-prop title rest = hlevel props
+
+abbrev group_of : (high low : ℕ) (title : List ℕ) (colour : ℕ) (rest : List ℕ) → GroupFacts title rest → GroupInfo
+group_of high low title colour rest h = record { high = high; low = low; title = title; colour = colour; rest = rest; whole = h.0; short = h.1 }
+
+pub group_facts : (high low : ℕ) (title : List ℕ) (colour : ℕ) (rest : List ℕ) → IsWhole (Pickled (group_items high low title colour) rest) → GroupFacts title rest
+group_facts high low title colour rest whole = (whole.0, omega (arith, whole.1))
+
+abbrev of_group : (GroupInfo → SessionCommand) → Maker
+of_group f (Pickled (Uint64Item h ∷ Uint64Item l ∷ UnitsItem t ∷ Uint32Item c ∷ []) rest) whole =
+    Some (f (group_of h l t c rest (group_facts h l t c rest whole)))
+of_group f _ whole = None
+
+group_same : (g : GroupInfo) (h : GroupFacts g.title g.rest) → group_of g.high g.low g.title g.colour g.rest h ≡ g
+group_same g h = ap (group_of g.high g.low g.title g.colour g.rest) (GroupFacts-prop g.title g.rest h (g.whole, g.short))
+
 -- the command whose row has this id and this layout
 abbrev command_of : ℕ → Maker
 command_of id layout whole =
     if id == 0 then of_two_ints (λ a b. TabWindow a b) layout whole else
     (if id == 2 then of_two_ints (λ a b. TabIndex a b) layout whole else
     (if id == 5 then of_two_ints (λ a b. PrunedBack a b) layout whole else
+    (if id == 6 then of_navigation (λ a b n. UpdateNavigation a b n) layout whole else
     (if id == 7 then of_two_ints (λ a b. SelectNavigation a b) layout whole else
     (if id == 8 then of_two_ints (λ a b. SelectTab a b) layout whole else
     (if id == 9 then of_two_ints (λ a b. WindowKind a b) layout whole else
@@ -79,12 +130,13 @@ command_of id layout whole =
     (if id == 23 then of_int_text (λ a t tail. Workspace a t tail) layout whole else
     (if id == 24 then of_three_ints (λ a b c. Pruned a b c) layout whole else
     (if id == 25 then of_tab_group (λ a h l b. TabGroup a h l b) layout whole else
+    (if id == 27 then of_group (λ g. GroupData g) layout whole else
     (if id == 28 then of_int_text (λ a t tail. TabGuid a t tail) layout whole else
     (if id == 29 then of_int_rest (λ a tail. UserAgent a tail) layout whole else
     (if id == 31 then of_int_text (λ a t tail. UserTitle a t tail) layout whole else
     (if id == 32 then of_int_flag (λ a b. AllWorkspaces a b) layout whole else
     (if id == 33 then of_int_two_texts (λ a t u tail. TabExtra a t u tail) layout whole else
-    (if id == 34 then of_int_two_texts (λ a t u tail. WindowExtra a t u tail) layout whole else None))))))))))))))))))))))))
+    (if id == 34 then of_int_two_texts (λ a t u tail. WindowExtra a t u tail) layout whole else None))))))))))))))))))))))))))
 
 -- The table says one thing for a command: its row has the shape of its id, and is no other's.
 abbrev pub Joined : SessionCommand → Row → Type 0
@@ -96,6 +148,8 @@ pub joined : (c : SessionCommand) → Joined c (row c)
 joined (TabWindow window tab) = (refl, (λ _. refl), refl)
 joined (TabIndex tab index) = (refl, (λ _. refl), refl)
 joined (PrunedBack tab index) = (refl, (λ _. refl), refl)
+joined (UpdateNavigation tab index navigation) =
+    (refl, (λ whole. ap (λ (n : Navigation). Some (UpdateNavigation tab index n)) (navigation_same navigation (navigation_facts tab index navigation.url navigation.title navigation.page_state navigation.transition navigation.rest whole))), refl)
 joined (SelectNavigation tab index) = (refl, (λ _. refl), refl)
 joined (SelectTab window index) = (refl, (λ _. refl), refl)
 joined (WindowKind window kind) = (refl, (λ _. refl), refl)
@@ -112,6 +166,8 @@ joined (LastActive tab time) = (refl, (λ _. refl), refl)
 joined (Workspace window workspace tail) = (refl, (λ _. refl), refl)
 joined (Pruned tab index count) = (refl, (λ _. refl), refl)
 joined (TabGroup tab high low grouped) = (refl, (λ _. refl), refl)
+joined (GroupData group) =
+    (refl, (λ whole. ap (λ (g : GroupInfo). Some (GroupData g)) (group_same group (group_facts group.high group.low group.title group.colour group.rest whole))), refl)
 joined (TabGuid tab guid tail) = (refl, (λ _. refl), refl)
 joined (UserAgent tab rest) = (refl, (λ _. refl), refl)
 joined (UserTitle window title tail) = (refl, (λ _. refl), refl)
@@ -177,6 +233,16 @@ int_two_texts_row : (id : ℕ) (f : ℤ → List ℕ → List ℕ → List ℕ �
 int_two_texts_row id f is (Pickled (IntItem a ∷ TextItem t ∷ TextItem u ∷ []) tail) whole e = (f a t u tail, is a t u tail)
 int_two_texts_row id f is _ whole e = absurd cc
 
+navigation_row : (id : ℕ) (f : ℤ → ℤ → Navigation → SessionCommand) → ((a b : ℤ) (n : Navigation) → row (f a b n) ≡ Known id (Pickled (navigation_items a b n.url n.title n.page_state n.transition) n.rest)) → (layout : Layout) → IsWhole layout → navigation_shape ≡ shape layout → RowOf id layout
+navigation_row id f is (Pickled (IntItem a ∷ IntItem b ∷ TextItem u ∷ UnitsItem t ∷ TextItem p ∷ IntItem c ∷ []) rest) whole e =
+    let n = navigation_of u t p c rest (navigation_facts a b u t p c rest whole) in (f a b n, is a b n)
+navigation_row id f is _ whole e = absurd cc
+
+group_row : (id : ℕ) (f : GroupInfo → SessionCommand) → ((g : GroupInfo) → row (f g) ≡ Known id (Pickled (group_items g.high g.low g.title g.colour) g.rest)) → (layout : Layout) → IsWhole layout → group_shape ≡ shape layout → RowOf id layout
+group_row id f is (Pickled (Uint64Item h ∷ Uint64Item l ∷ UnitsItem t ∷ Uint32Item c ∷ []) rest) whole e =
+    let g = group_of h l t c rest (group_facts h l t c rest whole) in (f g, is g)
+group_row id f is _ whole e = absurd cc
+
 -- one line of the table: where the id is its own the payload has its shape, else a later line holds
 at_id : {R : Type 0} (own id : ℕ) (s : Shape) (later r : Option Shape) → (if id == own then Some s else later) ≡ r → (own ≡ id → Some s ≡ r → R) → (later ≡ r → R) → R
 at_id own id s later r e here there =
@@ -193,26 +259,28 @@ row_of_shape id layout whole e0 =
     at_id 0 id _ _ _ e0 (row_of_id layout 0 id _ whole (two_ints_row 0 (λ a b. TabWindow a b) (λ a b. refl))) (λ e1.
     at_id 2 id _ _ _ e1 (row_of_id layout 2 id _ whole (two_ints_row 2 (λ a b. TabIndex a b) (λ a b. refl))) (λ e2.
     at_id 5 id _ _ _ e2 (row_of_id layout 5 id _ whole (two_ints_row 5 (λ a b. PrunedBack a b) (λ a b. refl))) (λ e3.
-    at_id 7 id _ _ _ e3 (row_of_id layout 7 id _ whole (two_ints_row 7 (λ a b. SelectNavigation a b) (λ a b. refl))) (λ e4.
-    at_id 8 id _ _ _ e4 (row_of_id layout 8 id _ whole (two_ints_row 8 (λ a b. SelectTab a b) (λ a b. refl))) (λ e5.
-    at_id 9 id _ _ _ e5 (row_of_id layout 9 id _ whole (two_ints_row 9 (λ a b. WindowKind a b) (λ a b. refl))) (λ e6.
-    at_id 11 id _ _ _ e6 (row_of_id layout 11 id _ whole (two_ints_row 11 (λ a b. PrunedFront a b) (λ a b. refl))) (λ e7.
-    at_id 12 id _ _ _ e7 (row_of_id layout 12 id _ whole (int_flag_row 12 (λ a b. Pinned a b) (λ a b. refl))) (λ e8.
-    at_id 13 id _ _ _ e8 (row_of_id layout 13 id _ whole (int_text_row 13 (λ a t tail. Extension a t tail) (λ a t tail. refl))) (λ e9.
-    at_id 14 id _ _ _ e9 (row_of_id layout 14 id _ whole (six_ints_row 14 (λ a b. WindowBounds a b) (λ a b. refl))) (λ e10.
-    at_id 15 id _ _ _ e10 (row_of_id layout 15 id _ whole (int_text_row 15 (λ a t tail. WindowApp a t tail) (λ a t tail. refl))) (λ e11.
-    at_id 16 id _ _ _ e11 (row_of_id layout 16 id _ whole (int_time_row 16 (λ a t. TabClosed a t) (λ a t. refl))) (λ e12.
-    at_id 17 id _ _ _ e12 (row_of_id layout 17 id _ whole (int_time_row 17 (λ a t. WindowClosed a t) (λ a t. refl))) (λ e13.
-    at_id 19 id _ _ _ e13 (row_of_id layout 19 id _ whole (int_text_row 19 (λ a t tail. SessionStorage a t tail) (λ a t tail. refl))) (λ e14.
-    at_id 20 id _ _ _ e14 (row_of_id layout 20 id _ whole (int_row 20 (λ a. ActiveWindow a) (λ a. refl))) (λ e15.
-    at_id 21 id _ _ _ e15 (row_of_id layout 21 id _ whole (int_time_row 21 (λ a t. LastActive a t) (λ a t. refl))) (λ e16.
-    at_id 23 id _ _ _ e16 (row_of_id layout 23 id _ whole (int_text_row 23 (λ a t tail. Workspace a t tail) (λ a t tail. refl))) (λ e17.
-    at_id 24 id _ _ _ e17 (row_of_id layout 24 id _ whole (three_ints_row 24 (λ a b c. Pruned a b c) (λ a b c. refl))) (λ e18.
-    at_id 25 id _ _ _ e18 (row_of_id layout 25 id _ whole (tab_group_row 25 (λ a h l b. TabGroup a h l b) (λ a h l b. refl))) (λ e19.
-    at_id 28 id _ _ _ e19 (row_of_id layout 28 id _ whole (int_text_row 28 (λ a t tail. TabGuid a t tail) (λ a t tail. refl))) (λ e20.
-    at_id 29 id _ _ _ e20 (row_of_id layout 29 id _ whole (int_rest_row 29 (λ a tail. UserAgent a tail) (λ a tail. refl))) (λ e21.
-    at_id 31 id _ _ _ e21 (row_of_id layout 31 id _ whole (int_text_row 31 (λ a t tail. UserTitle a t tail) (λ a t tail. refl))) (λ e22.
-    at_id 32 id _ _ _ e22 (row_of_id layout 32 id _ whole (int_flag_row 32 (λ a b. AllWorkspaces a b) (λ a b. refl))) (λ e23.
-    at_id 33 id _ _ _ e23 (row_of_id layout 33 id _ whole (int_two_texts_row 33 (λ a t u tail. TabExtra a t u tail) (λ a t u tail. refl))) (λ e24.
-    at_id 34 id _ _ _ e24 (row_of_id layout 34 id _ whole (int_two_texts_row 34 (λ a t u tail. WindowExtra a t u tail) (λ a t u tail. refl))) (λ e25.
-    absurd cc)))))))))))))))))))))))))
+    at_id 6 id _ _ _ e3 (row_of_id layout 6 id _ whole (navigation_row 6 (λ a b n. UpdateNavigation a b n) (λ a b n. refl))) (λ e4.
+    at_id 7 id _ _ _ e4 (row_of_id layout 7 id _ whole (two_ints_row 7 (λ a b. SelectNavigation a b) (λ a b. refl))) (λ e5.
+    at_id 8 id _ _ _ e5 (row_of_id layout 8 id _ whole (two_ints_row 8 (λ a b. SelectTab a b) (λ a b. refl))) (λ e6.
+    at_id 9 id _ _ _ e6 (row_of_id layout 9 id _ whole (two_ints_row 9 (λ a b. WindowKind a b) (λ a b. refl))) (λ e7.
+    at_id 11 id _ _ _ e7 (row_of_id layout 11 id _ whole (two_ints_row 11 (λ a b. PrunedFront a b) (λ a b. refl))) (λ e8.
+    at_id 12 id _ _ _ e8 (row_of_id layout 12 id _ whole (int_flag_row 12 (λ a b. Pinned a b) (λ a b. refl))) (λ e9.
+    at_id 13 id _ _ _ e9 (row_of_id layout 13 id _ whole (int_text_row 13 (λ a t tail. Extension a t tail) (λ a t tail. refl))) (λ e10.
+    at_id 14 id _ _ _ e10 (row_of_id layout 14 id _ whole (six_ints_row 14 (λ a b. WindowBounds a b) (λ a b. refl))) (λ e11.
+    at_id 15 id _ _ _ e11 (row_of_id layout 15 id _ whole (int_text_row 15 (λ a t tail. WindowApp a t tail) (λ a t tail. refl))) (λ e12.
+    at_id 16 id _ _ _ e12 (row_of_id layout 16 id _ whole (int_time_row 16 (λ a t. TabClosed a t) (λ a t. refl))) (λ e13.
+    at_id 17 id _ _ _ e13 (row_of_id layout 17 id _ whole (int_time_row 17 (λ a t. WindowClosed a t) (λ a t. refl))) (λ e14.
+    at_id 19 id _ _ _ e14 (row_of_id layout 19 id _ whole (int_text_row 19 (λ a t tail. SessionStorage a t tail) (λ a t tail. refl))) (λ e15.
+    at_id 20 id _ _ _ e15 (row_of_id layout 20 id _ whole (int_row 20 (λ a. ActiveWindow a) (λ a. refl))) (λ e16.
+    at_id 21 id _ _ _ e16 (row_of_id layout 21 id _ whole (int_time_row 21 (λ a t. LastActive a t) (λ a t. refl))) (λ e17.
+    at_id 23 id _ _ _ e17 (row_of_id layout 23 id _ whole (int_text_row 23 (λ a t tail. Workspace a t tail) (λ a t tail. refl))) (λ e18.
+    at_id 24 id _ _ _ e18 (row_of_id layout 24 id _ whole (three_ints_row 24 (λ a b c. Pruned a b c) (λ a b c. refl))) (λ e19.
+    at_id 25 id _ _ _ e19 (row_of_id layout 25 id _ whole (tab_group_row 25 (λ a h l b. TabGroup a h l b) (λ a h l b. refl))) (λ e20.
+    at_id 27 id _ _ _ e20 (row_of_id layout 27 id _ whole (group_row 27 (λ g. GroupData g) (λ g. refl))) (λ e21.
+    at_id 28 id _ _ _ e21 (row_of_id layout 28 id _ whole (int_text_row 28 (λ a t tail. TabGuid a t tail) (λ a t tail. refl))) (λ e22.
+    at_id 29 id _ _ _ e22 (row_of_id layout 29 id _ whole (int_rest_row 29 (λ a tail. UserAgent a tail) (λ a tail. refl))) (λ e23.
+    at_id 31 id _ _ _ e23 (row_of_id layout 31 id _ whole (int_text_row 31 (λ a t tail. UserTitle a t tail) (λ a t tail. refl))) (λ e24.
+    at_id 32 id _ _ _ e24 (row_of_id layout 32 id _ whole (int_flag_row 32 (λ a b. AllWorkspaces a b) (λ a b. refl))) (λ e25.
+    at_id 33 id _ _ _ e25 (row_of_id layout 33 id _ whole (int_two_texts_row 33 (λ a t u tail. TabExtra a t u tail) (λ a t u tail. refl))) (λ e26.
+    at_id 34 id _ _ _ e26 (row_of_id layout 34 id _ whole (int_two_texts_row 34 (λ a t u tail. WindowExtra a t u tail) (λ a t u tail. refl))) (λ e27.
+    absurd cc)))))))))))))))))))))))))))

@@ -3,7 +3,7 @@ use Rattle.std.proofs.Common.{◌≡◌, ℕ, ℤ, Bool, List, [], ◌∷◌, �
 use Rattle.std.proofs.lemmas.List.{append-nil}
 use Rattle.pickle_cells.specs.Layout.{Int, Int64, Uint64, Flag, Free}
 use Rattle.session_commands.specs.FixedReading.{IntField, Int64Field, Uint64Field, FlagField, FreeField, int_at, int64_at, uint64_at, flag_at}
-use Rattle.session_commands.specs.Layouts.{Fixed, IsLaidOut}
+use Rattle.session_commands.specs.PayloadLayout.{Fixed, IsLaidOut}
 use Rattle.session_commands.proofs.FieldLaws.{AreBytes, fields_found}
 
 pub int_read : (payload : List ℕ) (a : ℤ) → AreBytes payload → length payload ≡ 4 → a ≡ int_at 0 payload → IsLaidOut (Fixed (Int a ∷ [])) payload

@@ -1,8 +1,9 @@
 -- Why no row of the table of commands holds for a payload.
 use Rattle.std.specs.Prelude.{ℕ, List, [], ◌∷◌, length, Option, Some, None, option_map, if◌then◌else◌, ◌==◌}
 use Rattle.pickle_cells.specs.PickleLayout.{IntKind, TextKind, pickled_fault}
+use Rattle.navigation_entry.specs.Layouts.{navigation_kinds, group_kinds}
 use Rattle.session_commands.specs.FixedReading.{IntField, Int64Field, Uint64Field, FlagField, FreeField, width}
-use Rattle.session_commands.specs.Layouts.{Shape, FixedShape, PickledShape}
+use Rattle.session_commands.specs.PayloadLayout.{Shape, FixedShape, PickledShape}
 use Rattle.session_commands.specs.declared.fault.PayloadFault.{PayloadFault}
 use Rattle.session_commands.specs.declared.fault.PayloadFault.TheVariants.{UnknownId, Length, Pickle}
 
@@ -36,12 +37,19 @@ int_text_shape = PickledShape (IntKind ∷ TextKind ∷ [])
 abbrev pub int_two_texts_shape : Shape
 int_two_texts_shape = PickledShape (IntKind ∷ TextKind ∷ TextKind ∷ [])
 
+abbrev pub navigation_shape : Shape
+navigation_shape = PickledShape navigation_kinds
+
+abbrev pub group_shape : Shape
+group_shape = PickledShape group_kinds
+
 -- the shape of the payloads of an id with a row, as the table has them
 abbrev pub shape_of : ℕ → Option Shape
 shape_of id =
     if id == 0 then Some two_ints_shape else
     (if id == 2 then Some two_ints_shape else
     (if id == 5 then Some two_ints_shape else
+    (if id == 6 then Some navigation_shape else
     (if id == 7 then Some two_ints_shape else
     (if id == 8 then Some two_ints_shape else
     (if id == 9 then Some two_ints_shape else
@@ -58,12 +66,13 @@ shape_of id =
     (if id == 23 then Some int_text_shape else
     (if id == 24 then Some three_ints_shape else
     (if id == 25 then Some tab_group_shape else
+    (if id == 27 then Some group_shape else
     (if id == 28 then Some int_text_shape else
     (if id == 29 then Some int_rest_shape else
     (if id == 31 then Some int_text_shape else
     (if id == 32 then Some int_flag_shape else
     (if id == 33 then Some int_two_texts_shape else
-    (if id == 34 then Some int_two_texts_shape else None))))))))))))))))))))))))
+    (if id == 34 then Some int_two_texts_shape else None))))))))))))))))))))))))))
 
 abbrev pub length_fault : ℕ → List ℕ → Option PayloadFault
 length_fault wanted payload = if length payload == wanted then None else Some (Length wanted (length payload))

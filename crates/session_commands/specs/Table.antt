@@ -3,11 +3,12 @@
 use Rattle.std.specs.Prelude.{◌≡◌, ℕ, List, [], ◌∷◌, is_some, true, Option, Some, None}
 use Rattle.pickle_cells.specs.Layout.{Int, Int64, Uint64, Flag, Free}
 use Rattle.pickle_cells.specs.PickleLayout.{Int as IntItem, Text as TextItem}
-use Rattle.session_commands.specs.Layouts.{Layout, Fixed, Pickled, IsLaidOut, FitsLayout, IsWhole, layout_bytes}
+use Rattle.navigation_entry.specs.Layouts.{navigation_items, group_items}
+use Rattle.session_commands.specs.PayloadLayout.{Layout, Fixed, Pickled, IsLaidOut, FitsLayout, IsWhole, layout_bytes}
 use Rattle.session_commands.specs.Faults.{fault_of}
 use Rattle.session_commands.specs.declared.raw.RawCommand.{RawCommand}
 use Rattle.session_commands.specs.declared.command.SessionCommand.{SessionCommand}
-use Rattle.session_commands.specs.declared.command.SessionCommand.TheVariants.{Extension, WindowApp, SessionStorage, Workspace, TabGuid, UserAgent, UserTitle, TabExtra, WindowExtra, TabWindow, TabIndex, PrunedBack, SelectNavigation, SelectTab, WindowKind, PrunedFront, Pinned, WindowBounds, TabClosed, WindowClosed, ActiveWindow, LastActive, Pruned, TabGroup, AllWorkspaces, Raw}
+use Rattle.session_commands.specs.declared.command.SessionCommand.TheVariants.{UpdateNavigation, GroupData, Extension, WindowApp, SessionStorage, Workspace, TabGuid, UserAgent, UserTitle, TabExtra, WindowExtra, TabWindow, TabIndex, PrunedBack, SelectNavigation, SelectTab, WindowKind, PrunedFront, Pinned, WindowBounds, TabClosed, WindowClosed, ActiveWindow, LastActive, Pruned, TabGroup, AllWorkspaces, Raw}
 
 -- a row says an id and a layout; a raw command is kept without one
 pub data Row : Type 0 where
@@ -18,6 +19,8 @@ abbrev pub row : SessionCommand → Row
 row (TabWindow window tab) = Known 0 (Fixed (Int window ∷ Int tab ∷ []))
 row (TabIndex tab index) = Known 2 (Fixed (Int tab ∷ Int index ∷ []))
 row (PrunedBack tab index) = Known 5 (Fixed (Int tab ∷ Int index ∷ []))
+row (UpdateNavigation tab index n) =
+    Known 6 (Pickled (navigation_items tab index n.url n.title n.page_state n.transition) n.rest)
 row (SelectNavigation tab index) = Known 7 (Fixed (Int tab ∷ Int index ∷ []))
 row (SelectTab window index) = Known 8 (Fixed (Int window ∷ Int index ∷ []))
 row (WindowKind window kind) = Known 9 (Fixed (Int window ∷ Int kind ∷ []))
@@ -36,6 +39,7 @@ row (Workspace window workspace tail) = Known 23 (Pickled (IntItem window ∷ Te
 row (Pruned tab index count) = Known 24 (Fixed (Int tab ∷ Int index ∷ Int count ∷ []))
 row (TabGroup tab high low grouped) =
     Known 25 (Fixed (Int tab ∷ Free 4 ∷ Uint64 high ∷ Uint64 low ∷ Flag grouped ∷ Free 7 ∷ []))
+row (GroupData group) = Known 27 (Pickled (group_items group.high group.low group.title group.colour) group.rest)
 row (TabGuid tab guid tail) = Known 28 (Pickled (IntItem tab ∷ TextItem guid ∷ []) tail)
 row (UserAgent tab rest) = Known 29 (Pickled (IntItem tab ∷ []) rest)
 row (UserTitle window title tail) = Known 31 (Pickled (IntItem window ∷ TextItem title ∷ []) tail)

@@ -1,10 +1,10 @@
 //! The commands, and how they are read and written.
-ghost use Rattle.std.specs.Prelude.{◌≡◌, ◌≢◌, ◌≤◌, ◌++◌, length, true, is_some, IfOk, OnOk, OnErr};
+ghost use Rattle.std.specs.Prelude.{◌≡◌, ◌≢◌, ◌<◌, ◌≤◌, ◌^◌, ◌++◌, ℕ, get_or, length, true, is_some, IfOk, OnOk, OnErr};
 
-use crate::bounds::Bounds;
 use crate::fault::PayloadFault;
 use crate::raw::RawCommand;
 use crate::{fixed, fixed_write, pickled, pickled_write};
+use navigation_entry::{Bounds, GroupInfo, Navigation};
 use pickle_cells::Blob;
 use std::alloc::{AllocError, Global};
 
@@ -25,6 +25,12 @@ pub enum SessionCommand {
     PrunedBack {
         tab: i32,
         index: i32,
+    },
+    /// Id 6: the page of the tab at this index.
+    UpdateNavigation {
+        tab: i32,
+        index: i32,
+        navigation: Navigation,
     },
     /// Id 7: the tab shows the page with this index.
     SelectNavigation {
@@ -112,6 +118,10 @@ pub enum SessionCommand {
         low: u64,
         grouped: bool,
     },
+    /// Id 27: what is known of a group.
+    GroupData {
+        group: GroupInfo,
+    },
     /// Id 28: the tab's own name.
     TabGuid {
         tab: i32,
@@ -179,6 +189,16 @@ impl SessionCommand {
         ensures { IfOk result (λ found. Finds id payload.now found) }
     {
         match id {
+            6 => {
+                let Some((tab, index, navigation)) = pickled::navigation(alloc, payload)? else {
+                    return Ok(None);
+                };
+                Ok(Some(SessionCommand::UpdateNavigation {
+                    tab,
+                    index,
+                    navigation,
+                }))
+            }
             13 => {
                 let Some((tab, extension, tail)) = pickled::int_text(alloc, payload)? else {
                     return Ok(None);
@@ -210,6 +230,12 @@ impl SessionCommand {
                     workspace,
                     tail,
                 }))
+            }
+            27 => {
+                let Some(group) = pickled::group(alloc, payload)? else {
+                    return Ok(None);
+                };
+                Ok(Some(SessionCommand::GroupData { group }))
             }
             28 => {
                 let Some((tab, guid, tail)) = pickled::int_text(alloc, payload)? else {
@@ -263,10 +289,12 @@ impl SessionCommand {
     // The command of a payload of fixed length, under an id that isn't one of a pickled payload.
     #[tactic(auto, unfolding(crate::specs::Faults::fault_of))]
     fn fixed(id: u8, payload: &[u8]) -> Option<SessionCommand>
+        requires not_6 { id ≢ 6 }
         requires not_13 { id ≢ 13 }
         requires not_15 { id ≢ 15 }
         requires not_19 { id ≢ 19 }
         requires not_23 { id ≢ 23 }
+        requires not_27 { id ≢ 27 }
         requires not_28 { id ≢ 28 }
         requires not_29 { id ≢ 29 }
         requires not_31 { id ≢ 31 }
@@ -289,7 +317,8 @@ impl SessionCommand {
     // The ids from 0 to 11.
     #[tactic(auto, unfolding(crate::specs::Faults::fault_of))]
     fn fixed_to_11(id: u8, payload: &[u8]) -> Option<SessionCommand>
-        requires { id ≤ 11 }
+        requires high { id ≤ 11 }
+        requires not_6 { id ≢ 6 }
         ensures { Finds id payload.now result }
     {
         match id {
@@ -404,7 +433,9 @@ impl SessionCommand {
             20 => fixed::wrong_length(4, payload),
             24 => fixed::wrong_length(12, payload),
             25 => fixed::wrong_length(32, payload),
+            6 => pickled::navigation_fault(payload),
             13 | 15 | 19 | 23 | 28 | 31 => pickled::int_text_fault(payload),
+            27 => pickled::group_fault(payload),
             29 => pickled::int_rest_fault(payload),
             33 | 34 => pickled::int_two_texts_fault(payload),
             _ => Some(PayloadFault::UnknownId),
@@ -419,6 +450,7 @@ impl SessionCommand {
             SessionCommand::TabWindow { .. } => 0,
             SessionCommand::TabIndex { .. } => 2,
             SessionCommand::PrunedBack { .. } => 5,
+            SessionCommand::UpdateNavigation { .. } => 6,
             SessionCommand::SelectNavigation { .. } => 7,
             SessionCommand::SelectTab { .. } => 8,
             SessionCommand::WindowKind { .. } => 9,
@@ -435,6 +467,7 @@ impl SessionCommand {
             SessionCommand::Workspace { .. } => 23,
             SessionCommand::Pruned { .. } => 24,
             SessionCommand::TabGroup { .. } => 25,
+            SessionCommand::GroupData { .. } => 27,
             SessionCommand::TabGuid { .. } => 28,
             SessionCommand::UserAgent { .. } => 29,
             SessionCommand::UserTitle { .. } => 31,
@@ -472,6 +505,11 @@ impl SessionCommand {
             SessionCommand::PrunedBack { tab, index } => fixed_write::put_two_ints(
                 *tab, *index, out,
             ),
+            SessionCommand::UpdateNavigation {
+                tab,
+                index,
+                navigation,
+            } => pickled_write::put_navigation(*tab, *index, navigation, out),
             SessionCommand::SelectNavigation { tab, index } => fixed_write::put_two_ints(
                 *tab, *index, out,
             ),
@@ -525,6 +563,7 @@ impl SessionCommand {
                 low,
                 grouped,
             } => fixed_write::put_tab_group(*tab, *high, *low, *grouped, out),
+            SessionCommand::GroupData { group } => pickled_write::put_group(group, out),
             SessionCommand::TabGuid { tab, guid, tail } => pickled_write::put_int_text(
                 *tab,
                 guid.as_slice(),
@@ -586,6 +625,14 @@ impl SessionCommand {
             SessionCommand::PrunedBack { tab, index } => {
                 let (_tab, _index) = (*tab, *index);
             }
+            SessionCommand::UpdateNavigation {
+                tab,
+                index,
+                navigation,
+            } => {
+                let (_tab, _index, _transition) = (*tab, *index, navigation.transition);
+                known_units(navigation.title.units());
+            }
             SessionCommand::SelectNavigation { tab, index } => {
                 let (_tab, _index) = (*tab, *index);
             }
@@ -640,6 +687,10 @@ impl SessionCommand {
             } => {
                 let (_tab, _high, _low, _grouped) = (*tab, *high, *low, *grouped);
             }
+            SessionCommand::GroupData { group } => {
+                let (_high, _low, _colour) = (group.high, group.low, group.colour);
+                known_units(group.title.units());
+            }
             SessionCommand::TabGuid { tab, .. } => {
                 let _tab = *tab;
             }
@@ -679,6 +730,18 @@ impl SessionCommand {
                 tab: *tab,
                 index: *index,
             }),
+            SessionCommand::UpdateNavigation {
+                tab,
+                index,
+                navigation,
+            } => {
+                let navigation = navigation.copy()?;
+                Ok(SessionCommand::UpdateNavigation {
+                    tab: *tab,
+                    index: *index,
+                    navigation,
+                })
+            }
             SessionCommand::SelectNavigation { tab, index } => Ok(
                 SessionCommand::SelectNavigation {
                     tab: *tab,
@@ -780,6 +843,10 @@ impl SessionCommand {
                 low: *low,
                 grouped: *grouped,
             }),
+            SessionCommand::GroupData { group } => {
+                let group = group.copy()?;
+                Ok(SessionCommand::GroupData { group })
+            }
             SessionCommand::TabGuid { tab, guid, tail } => {
                 let guid = guid.copy()?;
                 let tail = tail.copy()?;
@@ -846,3 +913,7 @@ impl SessionCommand {
         }
     }
 }
+
+fn known_units(units: &[u16])
+    ensures { (i : ℕ) → get_or units.now i 0 < 2 ^ 16 }
+{}

@@ -1,13 +1,13 @@
 //! Payloads of fixed length, one reader a shape.
 ghost use Rattle.std.specs.Prelude.{◌≡◌, ◌+◌, ◌<◌, ◌≤◌, [], ◌∷◌, length, true, is_some, IfSome, IfNone};
 ghost use Rattle.pickle_cells.specs.Layout.{Int, Int64, Uint64, Flag, Free};
-ghost use Rattle.session_commands.specs.Layouts.{Fixed, IsLaidOut};
+ghost use Rattle.session_commands.specs.PayloadLayout.{Fixed, IsLaidOut};
 ghost use Rattle.session_commands.specs.FixedReading.{int_at, int64_at, uint64_at, flag_at};
 ghost use Rattle.session_commands.specs.Faults.{length_fault};
 ghost use Rattle.std.specs.Int.{w64, from_le_bytes};
 
-use crate::bounds::Bounds;
 use crate::fault::PayloadFault;
+use navigation_entry::Bounds;
 
 /// The fault of a payload whose length isn't the wanted one.
 pub(crate) fn wrong_length(wanted: u32, payload: &[u8]) -> Option<PayloadFault>

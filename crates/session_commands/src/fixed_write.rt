@@ -4,7 +4,7 @@ ghost use Rattle.std.specs.Prelude.{◌≡◌, [], ◌∷◌, ◌++◌, OnOk, On
 ghost use Rattle.pickle_cells.specs.Layout.{Int, Int64, Uint64, Flag, Free, fields_bytes};
 ghost use Rattle.pickle_cells.specs.Cell.{int, int64, uint64};
 
-use crate::bounds::Bounds;
+use navigation_entry::Bounds;
 use std::alloc::AllocError;
 
 #[tactic(auto, unfolding(pickle_cells::specs::Layout::fields_bytes, pickle_cells::specs::Layout::field_bytes))]

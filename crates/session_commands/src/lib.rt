@@ -2,7 +2,6 @@
 //! as it is. Stands on pickle_cells.
 #![tactic(auto)]
 
-mod bounds;
 mod command;
 mod fault;
 mod fixed;
@@ -11,10 +10,6 @@ mod pickled;
 mod pickled_write;
 mod raw;
 
-pub use bounds::Bounds;
 pub use command::SessionCommand;
 pub use fault::PayloadFault;
 pub use raw::RawCommand;
-
-#[cfg(test)]
-mod tests;

@@ -4,8 +4,10 @@ ghost use Rattle.std.specs.Prelude.{◌≡◌, ◌+◌, ◌%◌, ◌<◌, ◌≤
 ghost use Rattle.std.specs.Vec.{vec_len, vec_capacity};
 ghost use Rattle.pickle_cells.specs.Cell.{int, uint32, string, string_size};
 ghost use Rattle.pickle_cells.specs.PickleLayout.{Int, Text, pickled_bytes, pickled_size};
+ghost use Rattle.navigation_entry.specs.Layouts.{navigation_items, group_items};
 
 use crate::fixed_write::int_bytes;
+use navigation_entry::{GroupInfo, Navigation, write_group, write_navigation};
 use std::alloc::AllocError;
 
 /// A number and what follows it.
@@ -67,6 +69,31 @@ pub(crate) fn put_int_two_texts(
     put_string(first, out)?;
     put_string(second, out)?;
     out.extend_from_slice(tail)?;
+    Ok(())
+}
+
+/// A navigation of a tab at an index, by way of a buffer of its own.
+pub(crate) fn put_navigation(
+    tab: i32,
+    index: i32,
+    navigation: &Navigation,
+    out: &mut Vec<u8>,
+) -> Result<(), AllocError>
+    ensures ok { OnOk result (out.new.items ≡ out.old.items ++ pickled_bytes (navigation_items tab index navigation.now.url navigation.now.title navigation.now.page_state navigation.now.transition) navigation.now.rest) }
+    ensures err { OnErr result (out.new.items ≡ out.old.items) }
+{
+    let pickle = write_navigation(*out.allocator(), tab, index, navigation)?;
+    out.extend_from_slice(&pickle)?;
+    Ok(())
+}
+
+/// What is known of a group, by way of a buffer of its own.
+pub(crate) fn put_group(group: &GroupInfo, out: &mut Vec<u8>) -> Result<(), AllocError>
+    ensures ok { OnOk result (out.new.items ≡ out.old.items ++ pickled_bytes (group_items group.now.high group.now.low group.now.title group.now.colour) group.now.rest) }
+    ensures err { OnErr result (out.new.items ≡ out.old.items) }
+{
+    let pickle = write_group(*out.allocator(), group)?;
+    out.extend_from_slice(&pickle)?;
     Ok(())
 }
 
