@@ -4,7 +4,9 @@ use Rattle.std.proofs.Common.{◌≡◌, ℕ, ◌≤◌, true, List, length, is_
 use Rattle.std.proofs.Props.{props}
 use Rattle.session_commands.specs.PayloadLayout.{Layout, IsLaidOut, Shape, shape, IsWhole}
 use Rattle.session_commands.specs.Faults.{shape_of, shape_fault, fault_of}
-use Rattle.session_commands.specs.Table.{Row, Known, Kept, row, Holds, Payload, row_id, row_bytes, id_of, payload_of, RowFits, RowIsWhole, IsInRange, IsSound}
+use Rattle.session_commands.specs.Table.{Row, Known, Kept, row, Holds, Payload, row_id, row_bytes, id_of, payload_of, RowFits, RowIsWhole, IsInRange, IsKnown, IsSound}
+use Rattle.std.specs.Prelude.{IfNone}
+use Rattle.session_commands.specs.declared.fault.PayloadFault.{PayloadFault}
 use Rattle.session_commands.specs.declared.raw.RawCommand.{RawCommand}
 use Rattle.session_commands.specs.declared.command.SessionCommand.{SessionCommand}
 use Rattle.session_commands.specs.declared.command.SessionCommand.TheVariants.{Raw}
@@ -106,3 +108,17 @@ has_no_fault c id layout payload short is h =
     let j : Joined c (Known id layout) = rw is at (joined c) in
     let laid : Holds (Known id layout) id payload = subst (λ (r : Row). Holds r id payload) is h in
     rw (j.0) (accepted layout payload short laid.1)
+
+known_id : (c : SessionCommand) (id : ℕ) (payload : List ℕ) (own : ℕ) (layout : Layout) → row c ≡ Known own layout → Payload id c payload → id ≡ own
+known_id c id payload own layout is h = let held : Holds (Known own layout) id payload = subst (λ (r : Row). Holds r id payload) is h in held.0
+
+-- the same of an answer that is the fault
+pub row_found : (id : ℕ) (payload : List ℕ) (answer : Option PayloadFault) → AreBytes payload → length payload ≤ 65534 → answer ≡ fault_of id payload → IfNone answer ((c : SessionCommand) × IsKnown c × Payload id c payload)
+row_found id payload None range short e =
+    let found = has_row id payload range short (sym e) in (found.0, record { id = id; layout = found.1; is = found.2 }, found.3)
+row_found id payload (Some fault) range short e = tt
+
+pub row_has_none : (c : SessionCommand) (id : ℕ) (payload : List ℕ) → length payload ≤ 65534 → IsKnown c → Payload id c payload → fault_of id payload ≡ None
+row_has_none c id payload short known h =
+    let own : id ≡ known.id = known_id c id payload known.id known.layout known.is h in
+    has_no_fault c id known.layout payload short (subst (λ (x : ℕ). row c ≡ Known x known.layout) (sym own) known.is) h

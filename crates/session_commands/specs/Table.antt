@@ -76,6 +76,12 @@ abbrev pub RowFits : Row → Type 0
 RowFits (Known id layout) = FitsLayout layout
 RowFits (Kept raw) = Unit {0}
 
+-- the command has a row, and so isn't raw
+pub record IsKnown (command : SessionCommand) : Type 0 where
+  pub id : ℕ
+  pub layout : Layout
+  pub is : row command ≡ Known id layout
+
 -- the numbers are in the ranges of their types, as those of every value are
 abbrev pub IsInRange : SessionCommand → Type 0
 IsInRange command = RowFits (row command)

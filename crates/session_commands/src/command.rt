@@ -1,5 +1,5 @@
 //! The commands, and how they are read and written.
-ghost use Rattle.std.specs.Prelude.{◌≡◌, ◌≢◌, ◌<◌, ◌≤◌, ◌^◌, ◌++◌, ℕ, get_or, length, true, is_some, IfOk, OnOk, OnErr};
+ghost use Rattle.std.specs.Prelude.{◌≡◌, ◌≢◌, ◌<◌, ◌≤◌, ◌^◌, ◌++◌, ℕ, get_or, length, true, is_some, None, IfNone, IfOk, OnOk, OnErr};
 
 use crate::fault::PayloadFault;
 use crate::raw::RawCommand;
@@ -164,7 +164,7 @@ pub enum SessionCommand {
 
 impl SessionCommand {
     ghost use Rattle.session_commands.specs.Faults.{fault_of};
-    ghost use Rattle.session_commands.specs.Table.{Finds, IsInRange, IsSound, Payload, id_of, payload_of};
+    ghost use Rattle.session_commands.specs.Table.{Finds, IsInRange, IsKnown, IsSound, Payload, id_of, payload_of};
 
     /// The command whose row holds for the payload, a raw one where none does. It allocates once for
     /// each byte string that it keeps, and nothing for a payload of fixed length.
@@ -421,8 +421,17 @@ impl SessionCommand {
 
     /// Why the payload is kept raw: the first test of the table that it fails, and `None` exactly where a row
     /// holds. It takes no memory.
-    #[tactic(auto, unfolding(crate::specs::Faults::fault_of))]
     pub fn why_raw(id: u8, payload: &[u8]) -> Option<PayloadFault>
+        requires { length payload.now ≤ 65534 }
+        ensures first { result ≡ fault_of id payload.now }
+        ensures row { IfNone result ((command : SessionCommand) × IsKnown command × Payload id command payload.now) }
+        ensures none { (command : SessionCommand) → IsKnown command → Payload id command payload.now → result ≡ None }
+    {
+        SessionCommand::fault(id, payload)
+    }
+
+    #[tactic(auto, unfolding(crate::specs::Faults::fault_of))]
+    fn fault(id: u8, payload: &[u8]) -> Option<PayloadFault>
         requires { length payload.now ≤ 65534 }
         ensures { result ≡ fault_of id payload.now }
     {

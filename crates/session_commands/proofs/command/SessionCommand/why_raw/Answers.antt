@@ -1,0 +1,12 @@
+use Rattle.std.proofs.Common.{◌≡◌, Option, None, Some, sym, ◌∙◌, subst}
+use Rattle.std.specs.Prelude.{IfNone}
+use Rattle.session_commands.specs.Table.{IsKnown, Payload}
+use Rattle.session_commands.specs.declared.command.SessionCommand.{SessionCommand}
+use Rattle.session_commands.proofs.TableLaws.{row_found, row_has_none}
+use Rattle.session_commands.proofs.command.SessionCommand.why_raw.Goals as goal
+
+pub returns-clause-row : goal.returns-clause-row
+returns-clause-row c = row_found c.args.id c.args.payload.now c.fault.result c.type_inv.payload c.requires c.fault.ensures
+
+pub returns-clause-none : goal.returns-clause-none
+returns-clause-none c = λ command known holds. c.fault.ensures ∙ row_has_none command c.args.id c.args.payload.now c.requires known holds
