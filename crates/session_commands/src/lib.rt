@@ -13,3 +13,6 @@ mod raw;
 pub use command::SessionCommand;
 pub use fault::PayloadFault;
 pub use raw::RawCommand;
+
+#[cfg(test)]
+mod tests;
