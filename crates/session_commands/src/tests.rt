@@ -1,67 +1,103 @@
 use super::*;
 use pickle_cells::{Blob, PickleFault};
+use std::alloc::{AllocError, Global};
 use std::test::Fail;
 
+// The payload that is written for the command that is read, where its id is the same and nothing is wrong with it.
+fn again(alloc: Global, id: u8, payload: &[u8]) -> Result<Vec<u8>, AllocError> {
+    let mut out = Vec::new(alloc);
+    if payload.len() <= 65_534 && SessionCommand::why_raw(id, payload).is_none() {
+        let command = SessionCommand::read(alloc, id, payload)?.copy()?;
+        if command.id() == id {
+            command.write(&mut out)?;
+        }
+    }
+    Ok(out)
+}
+
+// Why the payload is raw, where it is written as it was read.
+fn refused(alloc: Global, id: u8, payload: &[u8]) -> Result<Option<PayloadFault>, AllocError> {
+    if payload.len() > 65_534 {
+        return Ok(None);
+    }
+    let mut out = Vec::new(alloc);
+    SessionCommand::read(alloc, id, payload)?.write(&mut out)?;
+    if out.as_slice() != payload {
+        return Ok(None);
+    }
+    Ok(SessionCommand::why_raw(id, payload))
+}
+
 #[test]
-fn one_payload_of_each_kind_is_read_and_written_again(rt: HostRuntime) -> Result<(), Fail> {
-    let pair = b"\x01\x00\x00\x00\xFE\xFF\xFF\xFF".as_slice();
-    let flag = b"\x02\x00\x00\x00\x01\x00\x00\x00".as_slice();
-    let time = b"\x02\x00\x00\x00\x00\x00\x00\x00\xFF\xFF\xFF\xFF\xFF\xFF\xFF\xFF".as_slice();
-    let text = b"\x0C\x00\x00\x00\x01\x00\x00\x00\x02\x00\x00\x00ab\x00\x00".as_slice();
-    let tail = b"\x0C\x00\x00\x00\x01\x00\x00\x00\x09\x08\x07\x06\x05\x04\x03\x02".as_slice();
-    let texts =
-        b"\x14\x00\x00\x00\x01\x00\x00\x00\x01\x00\x00\x00a\x00\x00\x00\x01\x00\x00\x00b\x00\x00\x00".as_slice();
+fn a_payload_of_each_fixed_kind_is_read_and_written_again(rt: HostRuntime) -> Result<(), Fail> {
+    let pair = [1, 0, 0, 0, 254, 255, 255, 255].as_slice();
+    for id in [0, 2, 5, 7, 8, 9, 11] {
+        assert_eq!(rt; again(rt.alloc(), id, pair)?.as_slice(), pair);
+    }
+    let flag = [2, 0, 0, 0, 1, 0, 0, 0].as_slice();
+    for id in [12, 32] {
+        assert_eq!(rt; again(rt.alloc(), id, flag)?.as_slice(), flag);
+    }
+    let time = [2, 0, 0, 0, 0, 0, 0, 0, 1, 2, 3, 4, 5, 6, 7, 255].as_slice();
+    for id in [16, 17, 21] {
+        assert_eq!(rt; again(rt.alloc(), id, time)?.as_slice(), time);
+    }
     for (id, payload) in [
-        (0, pair),
-        (2, pair),
-        (5, pair),
-        (
-            6,
-            b"\x1C\x00\x00\x00\x02\x00\x00\x00\x00\x00\x00\x00\x01\x00\x00\x00u\x00\x00\x00\x00\x00\x00\x00\x00\x00\x00\x00\x07\x00\x00\x00".as_slice(),
-        ),
-        (7, pair),
-        (8, pair),
-        (9, pair),
-        (11, pair),
-        (12, flag),
-        (13, text),
         (
             14,
-            b"\x01\x00\x00\x00\x02\x00\x00\x00\x03\x00\x00\x00\x04\x00\x00\x00\x05\x00\x00\x00\x06\x00\x00\x00".as_slice(),
+            [
+                1, 0, 0, 0, 2, 0, 0, 0, 3, 0, 0, 0, 4, 0, 0, 0, 5, 0, 0, 0, 6, 0, 0, 0,
+            ]
+            .as_slice(),
         ),
-        (15, text),
-        (16, time),
-        (17, time),
-        (19, text),
-        (20, b"\x01\x00\x00\x00".as_slice()),
-        (21, time),
-        (23, text),
-        (
-            24,
-            b"\x01\x00\x00\x00\x02\x00\x00\x00\x03\x00\x00\x00".as_slice(),
-        ),
+        (20, [1, 0, 0, 0].as_slice()),
+        (24, [1, 0, 0, 0, 2, 0, 0, 0, 3, 0, 0, 0].as_slice()),
         (
             25,
-            b"\x01\x00\x00\x00\x00\x00\x00\x00\x02\x00\x00\x00\x00\x00\x00\x00\x03\x00\x00\x00\x00\x00\x00\x00\x01\x00\x00\x00\x00\x00\x00\x00".as_slice(),
+            [
+                1, 0, 0, 0, 0, 0, 0, 0, 2, 0, 0, 0, 0, 0, 0, 0, 3, 0, 0, 0, 0, 0, 0, 0, 1, 0, 0, 0,
+                0, 0, 0, 0,
+            ]
+            .as_slice(),
+        ),
+    ] {
+        assert_eq!(rt; again(rt.alloc(), id, payload)?.as_slice(), payload);
+    }
+    Ok(())
+}
+
+#[test]
+fn a_payload_of_each_pickled_kind_is_read_and_written_again(rt: HostRuntime) -> Result<(), Fail> {
+    let text = [12, 0, 0, 0, 1, 0, 0, 0, 2, 0, 0, 0, 97, 98, 0, 0].as_slice();
+    for id in [13, 15, 19, 23, 28, 29, 31] {
+        assert_eq!(rt; again(rt.alloc(), id, text)?.as_slice(), text);
+    }
+    let texts = [
+        20, 0, 0, 0, 1, 0, 0, 0, 1, 0, 0, 0, 97, 0, 0, 0, 1, 0, 0, 0, 98, 0, 0, 0,
+    ]
+    .as_slice();
+    for id in [33, 34] {
+        assert_eq!(rt; again(rt.alloc(), id, texts)?.as_slice(), texts);
+    }
+    for (id, payload) in [
+        (
+            6,
+            [
+                28, 0, 0, 0, 2, 0, 0, 0, 0, 0, 0, 0, 1, 0, 0, 0, 117, 0, 0, 0, 0, 0, 0, 0, 0, 0, 0,
+                0, 7, 0, 0, 0,
+            ]
+            .as_slice(),
         ),
         (
             27,
-            b"\x1C\x00\x00\x00\x01\x00\x00\x00\x00\x00\x00\x00\x02\x00\x00\x00\x00\x00\x00\x00\x01\x00\x00\x00G\x00\x00\x00\x05\x00\x00\x00".as_slice(),
+            [
+                28, 0, 0, 0, 1, 0, 0, 0, 0, 0, 0, 0, 2, 0, 0, 0, 0, 0, 0, 0, 1, 0, 0, 0, 71, 0, 0,
+                0, 5, 0, 0, 0,
+            ]
+            .as_slice(),
         ),
-        (28, text),
-        (29, tail),
-        (31, text),
-        (32, flag),
-        (33, texts),
-        (34, texts),
     ] {
-        assert!(rt; payload.len() <= 65_534);
-        let command = SessionCommand::read(rt.alloc(), id, payload)?;
-        let mut out = Vec::new(rt.alloc());
-        command.copy()?.write(&mut out)?;
-        assert_eq!(rt; command.id(), id);
-        assert_eq!(rt; out.as_slice(), payload);
-        assert_eq!(rt; SessionCommand::why_raw(id, payload), None);
+        assert_eq!(rt; again(rt.alloc(), id, payload)?.as_slice(), payload);
     }
     Ok(())
 }
@@ -77,9 +113,10 @@ fn padding_is_free_when_it_is_read_and_0_when_it_is_written(rt: HostRuntime) -> 
             pinned: true
         }
     );
-    let mut out = Vec::new(rt.alloc());
-    command.write(&mut out)?;
-    assert_eq!(rt; out.as_slice(), [2, 0, 0, 0, 1, 0, 0, 0].as_slice());
+    assert_eq!(rt;
+        again(rt.alloc(), 12, &payload)?.as_slice(),
+        [2, 0, 0, 0, 1, 0, 0, 0].as_slice()
+    );
     Ok(())
 }
 
@@ -103,10 +140,11 @@ fn the_name_of_a_windows_app_is_read(rt: HostRuntime) -> Result<(), Fail> {
 #[test]
 fn what_no_row_accepts_is_kept_raw_for_a_reason(rt: HostRuntime) -> Result<(), Fail> {
     let negative = PickleFault::NegativeLength { at: 8, length: -1 };
+    let short = PickleFault::Short { at: 8 };
     for (id, payload, fault) in [
         (
             0,
-            b"\x01\x00\x00".as_slice(),
+            [1, 0, 0].as_slice(),
             PayloadFault::Length {
                 wanted: 8,
                 present: 3,
@@ -114,24 +152,18 @@ fn what_no_row_accepts_is_kept_raw_for_a_reason(rt: HostRuntime) -> Result<(), F
         ),
         (
             15,
-            b"\x08\x00\x00\x00\x01\x00\x00\x00\xFF\xFF\xFF\xFF".as_slice(),
+            [8, 0, 0, 0, 1, 0, 0, 0, 255, 255, 255, 255].as_slice(),
             PayloadFault::Pickle(negative),
         ),
         (
             15,
-            b"\x08\x00\x00\x00\x01\x00\x00\x00\x05\x00\x00\x00".as_slice(),
-            PayloadFault::Pickle(PickleFault::Short { at: 8 }),
+            [8, 0, 0, 0, 1, 0, 0, 0, 5, 0, 0, 0].as_slice(),
+            PayloadFault::Pickle(short),
         ),
-        (250, b"abc".as_slice(), PayloadFault::UnknownId),
-        (255, b"".as_slice(), PayloadFault::UnknownId),
+        (250, [97, 98, 99].as_slice(), PayloadFault::UnknownId),
+        (255, [].as_slice(), PayloadFault::UnknownId),
     ] {
-        assert!(rt; payload.len() <= 65_534);
-        assert_eq!(rt; SessionCommand::why_raw(id, payload), Some(fault));
-        let command = SessionCommand::read(rt.alloc(), id, payload)?;
-        let mut out = Vec::new(rt.alloc());
-        command.copy()?.write(&mut out)?;
-        assert_eq!(rt; command.id(), id);
-        assert_eq!(rt; out.as_slice(), payload);
+        assert_eq!(rt; refused(rt.alloc(), id, payload)?, Some(fault));
     }
     Ok(())
 }
