@@ -284,3 +284,10 @@ row_of_shape id layout whole e0 =
     at_id 33 id _ _ _ e25 (row_of_id layout 33 id _ whole (int_two_texts_row 33 (λ a t u tail. TabExtra a t u tail) (λ a t u tail. refl))) (λ e26.
     at_id 34 id _ _ _ e26 (row_of_id layout 34 id _ whole (int_two_texts_row 34 (λ a t u tail. WindowExtra a t u tail) (λ a t u tail. refl))) (λ e27.
     absurd cc)))))))))))))))))))))))))))
+
+-- a navigation and a group keep what their layouts ask for
+pub navigation_whole : (tab index : ℤ) (n : Navigation) → IsWhole (Pickled (navigation_items tab index n.url n.title n.page_state n.transition) n.rest)
+navigation_whole tab index n = (n.whole, omega (arith, n.short))
+
+pub group_whole : (g : GroupInfo) → IsWhole (Pickled (group_items g.high g.low g.title g.colour) g.rest)
+group_whole g = (g.whole, omega (arith, g.short))

@@ -1,6 +1,6 @@
 -- The table of commands, in both directions: a payload has one command, a payload with no fault has a row, and
 -- what is written for a command reads back.
-use Rattle.std.proofs.Common.{◌≡◌, ℕ, ◌≤◌, true, List, length, is_some, Option, Some, None, subst, refl, sym, ap, ◌∙◌}
+use Rattle.std.proofs.Common.{◌≡◌, ℕ, ℤ, ◌≤◌, true, List, length, is_some, Option, Some, None, subst, refl, sym, ap, ◌∙◌}
 use Rattle.std.proofs.Props.{props}
 use Rattle.session_commands.specs.PayloadLayout.{Layout, IsLaidOut, Shape, shape, IsWhole}
 use Rattle.session_commands.specs.Faults.{shape_of, shape_fault, fault_of}
@@ -9,10 +9,12 @@ use Rattle.std.specs.Prelude.{IfNone}
 use Rattle.session_commands.specs.declared.fault.PayloadFault.{PayloadFault}
 use Rattle.session_commands.specs.declared.raw.RawCommand.{RawCommand}
 use Rattle.session_commands.specs.declared.command.SessionCommand.{SessionCommand}
-use Rattle.session_commands.specs.declared.command.SessionCommand.TheVariants.{Raw}
+use Rattle.session_commands.specs.declared.command.SessionCommand.TheVariants.{UpdateNavigation, GroupData, Raw}
 use Rattle.session_commands.proofs.FieldLaws.{AreBytes}
 use Rattle.session_commands.proofs.LayoutLaws.{accepted, one_layout, laid_out, whole_of, layout_written, length-layout}
-use Rattle.session_commands.proofs.RowLaws.{Joined, joined, row_injective, row_of_shape}
+use Rattle.navigation_entry.specs.declared.navigation.Navigation.{Navigation}
+use Rattle.navigation_entry.specs.declared.group.GroupInfo.{GroupInfo}
+use Rattle.session_commands.proofs.RowLaws.{Joined, joined, row_injective, row_of_shape, navigation_whole, group_whole}
 
 -- ---- raw commands
 
@@ -122,3 +124,10 @@ pub row_has_none : (c : SessionCommand) (id : ℕ) (payload : List ℕ) → leng
 row_has_none c id payload short known h =
     let own : id ≡ known.id = known_id c id payload known.id known.layout known.is h in
     has_no_fault c id known.layout payload short (subst (λ (x : ℕ). row c ≡ Known x known.layout) (sym own) known.is) h
+
+-- a navigation and a group keep what writing asks for
+pub navigation_is_sound : (tab index : ℤ) (n : Navigation) → IsSound (UpdateNavigation tab index n)
+navigation_is_sound tab index n = navigation_whole tab index n
+
+pub group_is_sound : (g : GroupInfo) → IsSound (GroupData g)
+group_is_sound g = group_whole g

@@ -487,8 +487,9 @@ impl SessionCommand {
         }
     }
 
-    /// Appends the payload, which has at most 65,534 bytes and reads back as the same command. After an `Err`
-    /// `out` is as before.
+    /// Appends the payload, which has at most 65,534 bytes and reads back as the same command. A tail must have a
+    /// multiple of 4 bytes, and the texts must fit; what `read` and `copy` give does. After an `Err` `out` is as
+    /// before.
     #[tactic(auto, using(crate::proofs::TableLaws::written))]
     pub fn write(&self, out: &mut Vec<u8>) -> Result<(), AllocError>
         requires { IsSound self.now }

@@ -1,5 +1,5 @@
 //! The commands of session files, read and written exactly. A payload that no row of the table accepts is kept
-//! as it is. Stands on pickle_cells.
+//! as it is. Stands on pickle_cells and navigation_entry.
 #![tactic(auto)]
 
 mod command;
