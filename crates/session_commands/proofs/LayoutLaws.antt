@@ -1,18 +1,16 @@
 -- Layouts of both sorts, over any table: a payload has one layout of a shape, one that has no fault is laid out, and
 -- what is written for a layout is laid out so.
-use Rattle.std.proofs.Common.{◌≡◌, ℕ, suc, ◌+◌, ◌*◌, ◌%◌, ◌<◌, ◌≤◌, ◌^◌, Bool, true, eqb, List, [], ◌∷◌, ◌++◌, length, map, get_or, Option, Some, None, Result, Ok, Err, refl, sym, ap, ◌∙◌, inl, inr, arith}
+use Rattle.std.proofs.Common.{◌≡◌, ℕ, suc, ◌<◌, ◌≤◌, ◌^◌, Bool, true, eqb, List, [], ◌∷◌, length, map, get_or, Some, None, Result, Ok, Err, refl, ap, ◌∙◌, inl, inr, arith}
 use Rattle.std.specs.Prelude.{option_map, nat_le}
 use Rattle.std.specs.List.{AllByRecursion}
 use Rattle.std.proofs.lemmas.Bool.{eq-eqb, eqb-true, cases_Bool, leb-true}
 use Rattle.pickle_cells.specs.declared.fault.PickleFault.{PickleFault}
-use Rattle.pickle_cells.specs.Cell.{padding, string_size}
-use Rattle.pickle_cells.specs.Layout.{Field, AreFields, fields_bytes}
-use Rattle.pickle_cells.specs.PickleLayout.{Item, Int, Int64, Uint32, Uint64, Flag, Text, Units, ItemKind, kind_of, IsPickled, pickled_at, pickled_bytes, pickled_size, item_size, items_size, FitsItem, fault_of as pickle_fault_of}
+use Rattle.pickle_cells.specs.Layout.{fields_bytes}
+use Rattle.pickle_cells.specs.PickleLayout.{Item, Int, Int64, Uint32, Uint64, Flag, Text, Units, ItemKind, pickled_at, pickled_bytes, item_size, items_size, FitsItem, fault_of as pickle_fault_of}
 use Rattle.pickle_cells.proofs.PickleLaws.{pickled_found, pickled_only, one_reading, pickled_bytes-is, length-pickled}
-use Rattle.session_commands.specs.FixedReading.{FieldKind, field_kind, width, fields_at}
+use Rattle.session_commands.specs.FixedReading.{field_kind, width, fields_at}
 use Rattle.session_commands.specs.PayloadLayout.{Layout, Fixed, Pickled, IsLaidOut, layout_bytes, Shape, FixedShape, PickledShape, shape, FitsLayout, IsInType, IsWhole}
 use Rattle.session_commands.specs.Faults.{shape_fault, length_fault}
-use Rattle.session_commands.specs.declared.fault.PayloadFault.{PayloadFault}
 use Rattle.session_commands.specs.declared.fault.PayloadFault.TheVariants.{Pickle}
 use Rattle.session_commands.proofs.FieldLaws.{AreBytes, fields_found, kinds_at, one_fields, length-fields, fields_written}
 

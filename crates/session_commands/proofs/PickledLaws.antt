@@ -1,7 +1,6 @@
 -- What navigations and groups that are read show of the payload.
-use Rattle.std.proofs.Common.{◌≡◌, ℕ, ℤ, List, subst, sym}
-use Rattle.pickle_cells.specs.CellReading.{units_of}
-use Rattle.pickle_cells.specs.PickleLayout.{Item, IsPickled}
+use Rattle.std.proofs.Common.{◌≡◌, ℕ, ℤ, List}
+use Rattle.pickle_cells.specs.PickleLayout.{IsPickled}
 use Rattle.navigation_entry.specs.declared.navigation.Navigation.{Navigation}
 use Rattle.navigation_entry.specs.declared.reference.NavigationRef.{NavigationRef}
 use Rattle.navigation_entry.specs.declared.group.GroupInfo.{GroupInfo}

@@ -1,22 +1,19 @@
 -- The table read backwards: the command of an id and a layout. So a row is no other command's, and a layout of an id's
 -- shape is some command's.
-use Rattle.std.proofs.Common.{◌≡◌, ℕ, ℤ, ◌+◌, ◌*◌, ◌%◌, ◌≤◌, Bool, true, eqb, List, [], ◌∷◌, length, map, Option, Some, None, subst, refl, sym, ap, ◌∙◌, inl, inr, arith}
+use Rattle.std.proofs.Common.{◌≡◌, ℕ, ℤ, ◌*◌, ◌%◌, ◌≤◌, Bool, true, eqb, List, [], ◌∷◌, length, Option, Some, None, subst, refl, sym, ap, ◌∙◌, inl, inr, arith}
 use Rattle.std.specs.Prelude.{if◌then◌else◌, ◌==◌}
 use Rattle.std.proofs.lemmas.Bool.{eqb-true, cases_Bool}
 use Rattle.std.proofs.Props.{props}
-use Rattle.pickle_cells.specs.Cell.{padding, string_size}
-use Rattle.pickle_cells.specs.Layout.{Field, Int, Int64, Uint64, Flag, Free}
-use Rattle.pickle_cells.specs.PickleLayout.{Item, Int as IntItem, Uint32 as Uint32Item, Uint64 as Uint64Item, Text as TextItem, Units as UnitsItem, kind_of, pickled_size}
-use Rattle.session_commands.specs.FixedReading.{FieldKind, IntField, Int64Field, Uint64Field, FlagField, FreeField, field_kind}
-use Rattle.session_commands.specs.PayloadLayout.{Layout, Fixed, Pickled, Shape, FixedShape, PickledShape, shape, IsWhole}
+use Rattle.pickle_cells.specs.Layout.{Int, Int64, Uint64, Flag, Free}
+use Rattle.pickle_cells.specs.PickleLayout.{Int as IntItem, Uint32 as Uint32Item, Uint64 as Uint64Item, Text as TextItem, Units as UnitsItem}
+use Rattle.session_commands.specs.PayloadLayout.{Layout, Fixed, Pickled, Shape, shape, IsWhole}
 use Rattle.session_commands.specs.Faults.{shape_of, int_shape, two_ints_shape, three_ints_shape, six_ints_shape, int_flag_shape, int_time_shape, tab_group_shape, int_rest_shape, int_text_shape, int_two_texts_shape, navigation_shape, group_shape}
 use Rattle.session_commands.specs.Table.{Row, Known, Kept, row}
 use Rattle.navigation_entry.specs.declared.bounds.Bounds.{Bounds}
 use Rattle.navigation_entry.specs.declared.navigation.Navigation.{Navigation}
-use Rattle.navigation_entry.specs.Layouts.{navigation_items, navigation_kinds, navigation_size}
+use Rattle.navigation_entry.specs.Layouts.{navigation_items, navigation_size}
 use Rattle.navigation_entry.specs.declared.group.GroupInfo.{GroupInfo}
-use Rattle.navigation_entry.specs.Layouts.{group_items, group_kinds, group_size}
-use Rattle.session_commands.specs.declared.raw.RawCommand.{RawCommand}
+use Rattle.navigation_entry.specs.Layouts.{group_items, group_size}
 use Rattle.session_commands.specs.declared.command.SessionCommand.{SessionCommand}
 use Rattle.session_commands.specs.declared.command.SessionCommand.TheVariants.{TabWindow, TabIndex, PrunedBack, UpdateNavigation, SelectNavigation, SelectTab, WindowKind, PrunedFront, Pinned, Extension, WindowBounds, WindowApp, TabClosed, WindowClosed, SessionStorage, ActiveWindow, LastActive, Workspace, Pruned, TabGroup, GroupData, TabGuid, UserAgent, UserTitle, AllWorkspaces, TabExtra, WindowExtra, Raw}
 use Rattle.session_commands.proofs.LayoutLaws.{is_short}

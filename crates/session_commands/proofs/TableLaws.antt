@@ -2,7 +2,7 @@
 -- what is written for a command reads back.
 use Rattle.std.proofs.Common.{◌≡◌, ℕ, ℤ, ◌≤◌, true, List, length, is_some, Option, Some, None, subst, refl, sym, ap, ◌∙◌}
 use Rattle.std.proofs.Props.{props}
-use Rattle.session_commands.specs.PayloadLayout.{Layout, IsLaidOut, Shape, shape, IsWhole}
+use Rattle.session_commands.specs.PayloadLayout.{Layout, IsLaidOut, Shape, shape}
 use Rattle.session_commands.specs.Faults.{shape_of, shape_fault, fault_of}
 use Rattle.session_commands.specs.Table.{Row, Known, Kept, row, Holds, Payload, row_id, row_bytes, id_of, payload_of, RowFits, RowIsWhole, IsInRange, IsKnown, IsSound}
 use Rattle.std.specs.Prelude.{IfNone}

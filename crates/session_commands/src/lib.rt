@@ -3,6 +3,9 @@
 #![tactic(auto)]
 
 mod command;
+mod command_copy;
+mod command_read;
+mod command_write;
 mod fault;
 mod fixed;
 mod fixed_write;

@@ -8,6 +8,7 @@ ghost use Rattle.navigation_entry.specs.Layouts.{navigation_items, group_items};
 
 use crate::fixed_write::int_bytes;
 use navigation_entry::{GroupInfo, Navigation, write_group, write_navigation};
+use pickle_cells::string_item_size;
 use std::alloc::AllocError;
 
 /// A number and what follows it.
@@ -39,7 +40,7 @@ pub(crate) fn put_int_text(
     ensures ok { OnOk result (out.new.items ≡ out.old.items ++ pickled_bytes (Int number ∷ Text text.now ∷ []) tail.now) }
     ensures err { OnErr result (out.new.items ≡ out.old.items) }
 {
-    let size = 4 + cell_size(text.len()) + tail.len();
+    let size = 4 + string_item_size(text.len()) + tail.len();
     out.reserve(4 + size)?;
     out.extend_from_slice(&size_bytes(size))?;
     out.extend_from_slice(&int_bytes(number))?;
@@ -62,7 +63,7 @@ pub(crate) fn put_int_two_texts(
     ensures ok { OnOk result (out.new.items ≡ out.old.items ++ pickled_bytes (Int number ∷ Text first.now ∷ Text second.now ∷ []) tail.now) }
     ensures err { OnErr result (out.new.items ≡ out.old.items) }
 {
-    let size = 4 + cell_size(first.len()) + cell_size(second.len()) + tail.len();
+    let size = 4 + string_item_size(first.len()) + string_item_size(second.len()) + tail.len();
     out.reserve(4 + size)?;
     out.extend_from_slice(&size_bytes(size))?;
     out.extend_from_slice(&int_bytes(number))?;
@@ -95,15 +96,6 @@ pub(crate) fn put_group(group: &GroupInfo, out: &mut Vec<u8>) -> Result<(), Allo
     let pickle = write_group(*out.allocator(), group)?;
     out.extend_from_slice(&pickle)?;
     Ok(())
-}
-
-// The bytes of a string's cell of so many bytes of text.
-#[tactic(auto, unfolding(pickle_cells::specs::Cell::padding))]
-fn cell_size(text: usize) -> usize
-    requires { text < 2 ^ 32 }
-    ensures { result ≡ string_size text }
-{
-    4 + text + (4 - text % 4) % 4
 }
 
 #[tactic(auto, unfolding(pickle_cells::specs::Cell::uint32))]

@@ -1,4 +1,4 @@
-use Rattle.std.proofs.Common.{◌≡◌, refl, w32, rules}
+use Rattle.std.proofs.Common.{w32, rules}
 use Rattle.std.specs.Prelude.{FitsSigned}
 use Rattle.std.proofs.lemmas.Int.{to_z-of_z}
 use Rattle.session_commands.proofs.PickledLaws.{navigation_read}

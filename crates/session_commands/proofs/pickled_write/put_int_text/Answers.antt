@@ -8,7 +8,7 @@ use Rattle.session_commands.proofs.pickled_write.put_int_text.Goals as goal
 pub returns-clause-ok : goal.returns-clause-ok
 returns-clause-ok c =
     let out = c.args.out.now.items in
-    let size = 4 + c.cell_size.result + length c.args.tail.now in
+    let size = 4 + c.string_item_size.result + length c.args.tail.now in
     let head : c.extend_from_slice.new.self.items ≡ out ++ uint32 size =
     c.in_ok-extend_from_slice.ensures.items ∙ ap (λ (x : List ℕ). x ++ c.size_bytes.result) c.reserve.ensures.items ∙ ap (λ (x : List ℕ). out ++ x) c.size_bytes.ensures in
     let number : c.extend_from_slice-2.new.self.items ≡ c.extend_from_slice.new.self.items ++ int c.args.number =

@@ -1,5 +1,5 @@
 -- The numbers of a navigation and of a group, and the units of their titles.
-use Rattle.std.proofs.Common.{◌≡◌, ℕ, ◌<◌, ◌^◌, get_or, w32, rules}
+use Rattle.std.proofs.Common.{ℕ, ◌<◌, ◌^◌, get_or, w32, rules}
 use Rattle.std.specs.Prelude.{FitsSigned}
 use Rattle.session_commands.proofs.command.SessionCommand.known_in_range.Goals as goal
 

@@ -1,7 +1,4 @@
-use Rattle.std.proofs.Common.{◌≡◌, Option, None, Some, sym, ◌∙◌, subst}
-use Rattle.std.specs.Prelude.{IfNone}
-use Rattle.session_commands.specs.Table.{IsKnown, Payload}
-use Rattle.session_commands.specs.declared.command.SessionCommand.{SessionCommand}
+use Rattle.std.proofs.Common.{◌∙◌}
 use Rattle.session_commands.proofs.TableLaws.{row_found, row_has_none}
 use Rattle.session_commands.proofs.command.SessionCommand.why_raw.Goals as goal
 
