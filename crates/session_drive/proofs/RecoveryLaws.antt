@@ -19,7 +19,7 @@ use Rattle.session_commands.specs.Table.{Payload, id_of, payload_of}
 use Rattle.session_commands.specs.declared.raw.RawCommand.{RawCommand}
 use Rattle.session_commands.specs.declared.command.SessionCommand.{SessionCommand}
 use Rattle.session_commands.specs.declared.command.SessionCommand.TheVariants.{TabWindow, Raw}
-use Rattle.session_commands.proofs.FixedLaws.{reads_back, length-payload}
+use Rattle.session_commands.proofs.TableLaws.{reads_back, length-payload}
 use Rattle.session_disk.specs.Images.{Image}
 use Rattle.session_drive.specs.Replay.{start, fold}
 use Rattle.session_drive.specs.Recovery.{IsLawful, IsMarked, AreCommands, Recovers}
@@ -28,14 +28,14 @@ use Rattle.session_drive.specs.SessionFile.{frame_of, file_of}
 -- the commands put tabs into windows, with ids in their range
 abbrev pub IsTab : SessionCommand → Type 0
 IsTab (TabWindow window tab) = FitsSigned w32 window × FitsSigned w32 tab
-IsTab (Raw raw) = ⊥
+IsTab command = ⊥
 
 abbrev pub AreTabs : List SessionCommand → Type 0
 AreTabs commands = AllByRecursion IsTab commands
 
 tab_frame : (c : SessionCommand) → IsTab c → IsFrame (frame_of c)
-tab_frame (TabWindow window tab) h = record { id = omega arith; payload = length-payload (TabWindow window tab) h }
-tab_frame (Raw raw) h = absurd h
+tab_frame (TabWindow window tab) h = record { id = omega arith; payload = length-payload (TabWindow window tab) (h.0, (h.1, tt)) tt }
+tab_frame command h = absurd h
 
 tab_frames : (q : List SessionCommand) → AreTabs q → AllByRecursion IsFrame (map frame_of q)
 tab_frames [] h = tt
@@ -51,8 +51,8 @@ unfolding marker_command
 marker_payload = (refl, refl)
 
 tab_payload : (c : SessionCommand) → IsTab c → Payload (id_of c) c (payload_of c)
-tab_payload (TabWindow window tab) h = reads_back (TabWindow window tab) h
-tab_payload (Raw raw) h = absurd h
+tab_payload (TabWindow window tab) h = reads_back (TabWindow window tab) (h.0, (h.1, tt)) tt
+tab_payload command h = absurd h
 
 -- frames of commands, as many as are there, are these commands
 frames_read : (q : List SessionCommand) → AreTabs q → (i : ℕ) → AreCommands (take i (map frame_of q)) (take i q)

@@ -3,7 +3,7 @@
 use Rattle.std.specs.Prelude.{ℕ, ℤ, Bool, ◌&&◌, nat_le, List, [], ◌∷◌, length, Option, Some, if◌then◌else◌}
 use Rattle.std.specs.Ordering.{int_cmp, match_ordering}
 use Rattle.session_commands.specs.declared.command.SessionCommand.{SessionCommand}
-use Rattle.session_commands.specs.declared.command.SessionCommand.TheVariants.{TabWindow, Raw}
+use Rattle.session_commands.specs.declared.command.SessionCommand.TheVariants.{TabWindow}
 
 pub record Tab : Type 0 where
   pub id : ℤ
@@ -35,9 +35,10 @@ is_within s = nat_le (length s.tabs) limit && nat_le (length s.windows) limit
 abbrev pub or_unchanged : State → State → State
 or_unchanged old new = if is_within new then new else old
 
+-- A tab in a window is the only command of a run; the others change nothing yet.
 abbrev pub step : State → SessionCommand → State
 step s (TabWindow window tab) = or_unchanged s (record { tabs = with_tab tab window s.tabs; windows = with_window window s.windows })
-step s (Raw raw) = s
+step s command = s
 
 abbrev pub start : State
 start = record { tabs = []; windows = [] }

@@ -1,6 +1,7 @@
 //! The bytes of the session file that a script makes: header, marker, one frame a command.
 ghost use Rattle.std.specs.Prelude.{◌≡◌, ◌≤◌, ◌++◌, [], length, IfOk, IfErr, OnOk};
 ghost use Rattle.snss_frames.specs.Frame.{frame_bytes};
+ghost use Rattle.session_commands.specs.Table.{IsSound};
 ghost use Rattle.session_drive.specs.declared.file.FileFault.TheVariants.{Memory};
 ghost use Rattle.session_drive.specs.SessionFile.{frame_of, file_of, IsFileOf, IsRefusedBy};
 
@@ -82,6 +83,7 @@ fn put_command(
     payload: &mut Vec<u8>,
     out: &mut Vec<u8>,
 ) -> Result<(), AllocError>
+    requires { IsSound command.now }
     ensures { OnOk result (out.new.items ≡ out.old.items ++ frame_bytes (frame_of command.now)) }
 {
     payload.clear();
