@@ -56,7 +56,7 @@ pub fn drive_inline<S: Source, K: Sink, D: SessionDisk, C: Clock>(
     // What stands at the end.
     ensures done { D.tells → IsAtRest (D.history session).now → (D.history session).now.told ≡ 0 →
         IfSome (S.left script.old) (λ text. IsDone result.0 → HoldsCommands (D.history result.1).now text) }
-    ensures refused { LeavesDisk result.0 → D.history result.1 ≡ D.history session }
+    ensures unchanged { LeavesDisk result.0 → D.history result.1 ≡ D.history session }
     ensures not_called { CallsNoDisk result.0 → result.1 ≡ session }
     ensures not_read { result.0 ≡ Status.Usage → script.new ≡ script.old }
     ensures tabs { result.2 ≡ tabs }
@@ -92,7 +92,7 @@ fn run<S: Source, K: Sink, D: SessionDisk, C: Clock>(
     ensures later { K.faults out.old ≤ K.faults out.new }
     ensures done { D.tells → IsAtRest (D.history session.old).now → (D.history session.old).now.told ≡ 0 →
         IfSome (S.left script.old) (λ text. IsDone result.status → HoldsCommands (D.history session.new).now text) }
-    ensures refused { LeavesDisk result.status → D.history session.new ≡ D.history session.old }
+    ensures unchanged { LeavesDisk result.status → D.history session.new ≡ D.history session.old }
     ensures not_called { CallsNoDisk result.status → session.new ≡ session.old }
     ensures not_read { result.status ≡ Status.Usage → script.new ≡ script.old }
     ensures crash { D.tells → IsBare (D.history session.old).now → (D.history session.old).now.told ≡ 0 →
@@ -124,7 +124,7 @@ fn attempt<S: Source, K: Sink, D: SessionDisk, C: Clock>(
     ensures later { K.faults out.old ≤ K.faults out.new }
     ensures done { D.tells → IsAtRest (D.history session.old).now → (D.history session.old).now.told ≡ 0 →
         IfSome (S.left script.old) (λ text. IsDone (status_of result) → HoldsCommands (D.history session.new).now text) }
-    ensures refused { LeavesDisk (status_of result) → D.history session.new ≡ D.history session.old }
+    ensures unchanged { LeavesDisk (status_of result) → D.history session.new ≡ D.history session.old }
     ensures not_called { CallsNoDisk (status_of result) → session.new ≡ session.old }
     ensures not_read { status_of result ≡ Status.Usage → script.new ≡ script.old }
     ensures crash { D.tells → IsBare (D.history session.old).now → (D.history session.old).now.told ≡ 0 →
