@@ -9,6 +9,7 @@ use Rattle.std.proofs.lemmas.List.{drop_more, take_at, drop_at, length-append, l
 use Rattle.std.proofs.lemmas.Bool.{cases_lt}
 use Rattle.pickle_cells.specs.Cell.{int, int64, uint64}
 use Rattle.pickle_cells.specs.Layout.{Field, Int, Int64, Uint64, Flag, Free, IsField, AreFields, field_bytes, fields_bytes}
+use Rattle.pickle_cells.proofs.ItemLaws.{length-int, length-int64, length-uint64}
 use Rattle.session_commands.specs.FixedReading.{FieldKind, IntField, Int64Field, Uint64Field, FlagField, FreeField, field_kind, field_width, width, int_at, int64_at, uint64_at, flag_at, field_at, fields_at}
 use Rattle.session_commands.specs.PayloadLayout.{FitsField}
 
@@ -28,18 +29,6 @@ range_at place size bytes range i =
 
 length_at : (place size : ℕ) (bytes : List ℕ) → place + size ≤ length bytes → length (take size (drop place bytes)) ≡ size
 length_at place size bytes there = length-take-le size (drop place bytes) (omega (arith, length-drop place bytes))
-
-pub length-int : (z : ℤ) → length (int z) ≡ 4
-unfolding int
-length-int z = refl
-
-pub length-int64 : (z : ℤ) → length (int64 z) ≡ 8
-unfolding int64
-length-int64 z = refl
-
-pub length-uint64 : (n : ℕ) → length (uint64 n) ≡ 8
-unfolding uint64
-length-uint64 n = refl
 
 -- the number that four bytes say: below 2 ^ 32, since they are bytes
 from_4_below : (bytes : List ℕ) → ((i : ℕ) → get_or bytes i 0 < 256) → from_le_bytes w32 bytes < 2 ^ 32
