@@ -1,16 +1,16 @@
 -- The payload of a group, both ways, and its length.
-use Rattle.std.proofs.Common.{◌≡◌, ℕ, ◌+◌, ◌*◌, ◌/◌, ◌%◌, ◌^◌, ◌<◌, ◌≤◌, List, [], ◌∷◌, ◌++◌, append_assoc, length, get_or, Result, Ok, Err, refl, sym, ap, subst, ◌∙◌, arith}
+use Rattle.std.proofs.Common.{◌≡◌, ℕ, ◌*◌, ◌%◌, ◌^◌, ◌<◌, ◌≤◌, List, [], ◌++◌, append_assoc, length, get_or, Result, Ok, Err, refl, sym, ap, subst, ◌∙◌, arith}
 use Rattle.std.specs.Prelude.{IfOk, IsOkAnd}
 use Rattle.pickle_cells.specs.declared.fault.PickleFault.{PickleFault}
-use Rattle.pickle_cells.specs.Cell.{IsBytes, padding, unit_bytes, uint32, uint64, string16, pickle}
+use Rattle.pickle_cells.specs.Cell.{IsBytes, padding, uint32, uint64, string16, pickle}
 use Rattle.pickle_cells.specs.CellReading.{units_of}
-use Rattle.pickle_cells.specs.PickleLayout.{Item, IsPickled, IsReadAs, pickled_at, pickled_bytes, items_bytes, item_bytes}
+use Rattle.pickle_cells.specs.PickleLayout.{IsPickled, IsReadAs, pickled_at, pickled_bytes, items_bytes, item_bytes}
 use Rattle.pickle_cells.proofs.CellLaws.{ok_is}
 use Rattle.pickle_cells.proofs.UnitLaws.{length-units_of, units_below}
 use Rattle.pickle_cells.proofs.PickleLaws.{pickled_found, pickled_only, pickled_bytes-is, length-pickled}
 use Rattle.navigation_entry.specs.declared.group.GroupInfo.{GroupInfo}
 use Rattle.navigation_entry.specs.declared.group.GroupRef.{GroupRef}
-use Rattle.navigation_entry.specs.GroupViews.{IsGroup, group_bytes, group_ref_items, group_ref_parts, ShowsGroup}
+use Rattle.navigation_entry.specs.GroupViews.{IsGroup, group_ref_items, group_ref_parts, ShowsGroup}
 use Rattle.navigation_entry.specs.Layouts.{group_items, group_kinds, group_size}
 use Rattle.navigation_entry.proofs.NavigationLaws.{Parts, done}
 

@@ -1,5 +1,5 @@
 -- What holds of a value that was read holds of it where it is kept.
-use Rattle.std.proofs.Common.{◌≡◌, Bool, true, false, List, ℕ, Option, Some, None, Result, Ok, Err, refl, sym, subst}
+use Rattle.std.proofs.Common.{◌≡◌, Bool, true, false, List, ℕ, Option, Result, Ok, Err, sym, subst}
 use Rattle.std.specs.Prelude.{IfOk, IfSome}
 use Rattle.pickle_cells.specs.declared.fault.PickleFault.{PickleFault}
 use Rattle.navigation_entry.specs.Display.{goes_on, with_behind}

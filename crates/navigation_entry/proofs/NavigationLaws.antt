@@ -1,17 +1,17 @@
 -- The payload of a navigation, both ways, and its length.
-use Rattle.std.proofs.Common.{◌≡◌, ℕ, ◌+◌, ◌*◌, ◌/◌, ◌%◌, ◌^◌, ◌<◌, ◌≤◌, ℤ, List, [], ◌∷◌, ◌++◌, append_assoc, length, get_or, Result, Ok, Err, refl, sym, ap, subst, ◌∙◌, arith}
+use Rattle.std.proofs.Common.{◌≡◌, ℕ, ◌*◌, ◌%◌, ◌^◌, ◌<◌, ◌≤◌, ℤ, List, [], ◌++◌, append_assoc, length, get_or, Result, Ok, Err, refl, sym, ap, subst, ◌∙◌, arith}
 use Rattle.std.specs.Prelude.{FitsSigned, IfOk, IsOkAnd}
 use Rattle.std.specs.Int.{w32}
 use Rattle.pickle_cells.specs.declared.fault.PickleFault.{PickleFault}
-use Rattle.pickle_cells.specs.Cell.{IsBytes, padding, unit_bytes, int, string, string16, pickle}
+use Rattle.pickle_cells.specs.Cell.{IsBytes, padding, int, string, string16, pickle}
 use Rattle.pickle_cells.specs.CellReading.{units_of}
-use Rattle.pickle_cells.specs.PickleLayout.{Item, Int, Text, Units, IsPickled, IsReadAs, pickled_at, pickled_bytes, items_bytes, item_bytes}
+use Rattle.pickle_cells.specs.PickleLayout.{Item, IsPickled, IsReadAs, pickled_at, pickled_bytes, items_bytes, item_bytes}
 use Rattle.pickle_cells.proofs.CellLaws.{ok_is}
 use Rattle.pickle_cells.proofs.UnitLaws.{length-units_of, units_below}
 use Rattle.pickle_cells.proofs.PickleLaws.{pickled_found, pickled_only, pickled_bytes-is, length-pickled}
 use Rattle.navigation_entry.specs.declared.navigation.Navigation.{Navigation}
 use Rattle.navigation_entry.specs.declared.reference.NavigationRef.{NavigationRef}
-use Rattle.navigation_entry.specs.Views.{IsNavigation, navigation_bytes, reference_items, reference_parts, Shows}
+use Rattle.navigation_entry.specs.Views.{IsNavigation, reference_items, reference_parts, Shows}
 use Rattle.navigation_entry.specs.Layouts.{navigation_items, navigation_kinds, navigation_size}
 
 abbrev pub Parts : Type 0

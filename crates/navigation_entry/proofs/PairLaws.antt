@@ -1,8 +1,8 @@
 -- Pairs that are read one after another, as a loop does.
-use Rattle.std.proofs.Common.{◌≡◌, ℕ, suc, ◌-◌, ◌+◌, ◌<◌, ◌≤◌, List, [], ◌∷◌, ◌++◌, Option, Some, None, refl, sym, ap, ◌∙◌, append_assoc, arith}
+use Rattle.std.proofs.Common.{◌≡◌, ℕ, suc, ◌-◌, ◌+◌, ◌<◌, ◌≤◌, List, [], ◌∷◌, ◌++◌, Some, None, sym, ap, ◌∙◌, append_assoc, arith}
 use Rattle.std.proofs.lemmas.List.{append-nil}
 use Rattle.navigation_entry.specs.declared.more.InfoPair.{InfoPair}
-use Rattle.navigation_entry.specs.Display.{front, pair_at, pairs_at, with_first}
+use Rattle.navigation_entry.specs.Display.{front, pair_at, pairs_at}
 
 abbrev pub Pairs : Type 0
 Pairs = List InfoPair × List ℕ

@@ -1,7 +1,7 @@
 -- The order in which the fields behind a navigation's transition are shown: each reads where every field before it
 -- has read, and what is left begins at the first that doesn't (this profile, after Chromium's
 -- components/sessions/core/serialized_navigation_entry.cc).
-use Rattle.std.specs.Prelude.{ℕ, zero, suc, ℤ, pos, negsuc, Bool, true, false, List, [], ◌∷◌, ◌++◌, Option, Some, None, Result, Ok, Err, option_map}
+use Rattle.std.specs.Prelude.{ℕ, zero, suc, ℤ, pos, negsuc, Bool, true, false, List, [], ◌∷◌, Option, Some, None, Result, Ok, Err, option_map}
 use Rattle.pickle_cells.specs.declared.fault.PickleFault.{PickleFault}
 use Rattle.pickle_cells.specs.CellReading.{Unread, ◌>>=◌, int_at, int64_at, flag_at, string_at, string16_at, units_of}
 use Rattle.navigation_entry.specs.declared.more.InfoPair.{InfoPair}

@@ -1,6 +1,6 @@
 -- The payloads of a navigation and of a group: which items they are, and how long they are (this profile, after
 -- Chromium's components/sessions/core/serialized_navigation_entry.cc and tab groups in session_service_commands.cc).
-use Rattle.std.specs.Prelude.{ℕ, ◌+◌, ◌*◌, ℤ, List, [], ◌∷◌, length}
+use Rattle.std.specs.Prelude.{ℕ, ◌+◌, ℤ, List, [], ◌∷◌}
 use Rattle.pickle_cells.specs.Cell.{string_size}
 use Rattle.pickle_cells.specs.PickleLayout.{Item, Int, Uint32, Uint64, Text, Units, ItemKind, IntKind, Uint32Kind, Uint64Kind, TextKind, UnitsKind}
 

@@ -1,7 +1,6 @@
 -- Navigations and groups as the items and the tail of their payloads.
-use Rattle.std.specs.Prelude.{◌≡◌, ℕ, ℤ, List, length}
+use Rattle.std.specs.Prelude.{◌≡◌, ℕ, ℤ, List}
 use Rattle.pickle_cells.specs.CellReading.{units_of}
-use Rattle.pickle_cells.specs.Cell.{unit_bytes}
 use Rattle.pickle_cells.specs.PickleLayout.{Item, IsPickled, pickled_bytes}
 use Rattle.navigation_entry.specs.declared.navigation.Navigation.{Navigation}
 use Rattle.navigation_entry.specs.declared.reference.NavigationRef.{NavigationRef}

@@ -1,21 +1,20 @@
 -- Payloads that are a pickle: what is read stands there, what stands there is read, and what is written is one of
 -- the payload's spellings.
-use Rattle.std.proofs.Common.{◌≡◌, ℕ, suc, ◌+◌, ◌-◌, ◌*◌, ◌/◌, ◌%◌, ◌^◌, ◌<◌, ◌≤◌, ℤ, pos, Bool, true, false, not, cond, eqb, ltb, ◌&&◌, List, [], ◌∷◌, ◌++◌, length, map, take, drop, replicate, Result, Ok, Err, refl, sym, ap, subst, ◌∙◌, append_assoc, arith}
-use Rattle.std.specs.Prelude.{FitsSigned, IfOk, IsOkAnd}
-use Rattle.std.specs.Int.{w32, from_le_bytes, to_le_bytes, from_bool}
+use Rattle.std.proofs.Common.{◌≡◌, ℕ, ◌+◌, ◌-◌, ◌%◌, ◌^◌, ◌<◌, ◌≤◌, Bool, true, false, cond, eqb, ltb, ◌&&◌, List, [], ◌∷◌, ◌++◌, length, map, take, drop, Result, Ok, Err, refl, sym, ap, subst, ◌∙◌, arith}
+use Rattle.std.specs.Prelude.{IfOk}
+use Rattle.std.specs.Int.{w32, from_le_bytes, to_le_bytes}
 use Rattle.std.specs.List.{AllByRecursion}
-use Rattle.std.proofs.lemmas.List.{length-append, length-take, length-drop, length-replicate, append_cancel_left, take-append-drop, take_at, drop_at}
+use Rattle.std.proofs.lemmas.List.{length-append, length-take, length-drop, take-append-drop, take_at, drop_at}
 use Rattle.pickle_cells.specs.declared.fault.PickleFault.{PickleFault}
 use Rattle.pickle_cells.specs.declared.fault.PickleFault.TheVariants.{Short, SizeField}
-use Rattle.pickle_cells.specs.Cell.{IsBytes, int, int64, uint32, uint64, flag, counted, string, string16, unit_bytes, padding, IsFlag, IsCounted, IsString, IsString16, IsPickle, pickle}
-use Rattle.pickle_cells.specs.CellReading.{Unread, Gives, ◌>>=◌, int_at, int64_at, uint32_at, uint64_at, flag_at, string_at, string16_at, units_of, body_at}
-use Rattle.pickle_cells.specs.PickleLayout.{Item, Int, Int64, Uint32, Uint64, Flag, Text, Units, IsItem, AreItems, IsPickled, FitsItem, items_size, pickled_size, item_bytes, items_bytes, pickled_bytes, ItemKind, IntKind, Int64Kind, Uint32Kind, Uint64Kind, FlagKind, TextKind, UnitsKind, kind_of, item_at, items_at, pickled_at, Takes}
-use Rattle.pickle_cells.proofs.ItemLaws.{length-uint32, length-pickle, item_found, item_only, item_bytes-is, length-cell, item_size-whole}
+use Rattle.pickle_cells.specs.Cell.{IsBytes, uint32, IsPickle, pickle}
+use Rattle.pickle_cells.specs.CellReading.{Unread, ◌>>=◌, body_at}
+use Rattle.pickle_cells.specs.PickleLayout.{Item, AreItems, IsPickled, FitsItem, items_size, pickled_size, item_bytes, items_bytes, pickled_bytes, ItemKind, kind_of, item_at, items_at, pickled_at}
+use Rattle.pickle_cells.proofs.ItemLaws.{length-uint32, item_found, item_only, item_bytes-is, length-cell, item_size-whole}
 use Rattle.std.proofs.lemmas.Bool.{eqb-true, ltb-false, le-ltb}
 use Rattle.std.proofs.lemmas.Bool.Decides.{nat_tests}
 use Rattle.pickle_cells.proofs.CellLaws.{wide32}
-use Rattle.pickle_cells.proofs.UnitLaws.{length-unit_bytes, length-units_of, unit_bytes-units_of, units_of-fits, units_of-unit_bytes}
-use Rattle.pickle_cells.proofs.CellLaws.{IsBytes-take, IsBytes-drop, padded, bind_ok, ok_is, Taken, Taken-fits, Taken-then, int_takes, int_again, int64_takes, int64_again, uint32_takes, uint32_again, uint64_takes, uint64_again, flag_takes, flag_again, counted_takes, counted_again}
+use Rattle.pickle_cells.proofs.CellLaws.{IsBytes-take, IsBytes-drop, bind_ok, ok_is, Taken, Taken-fits}
 
 -- ---- items one after another
 

@@ -19,7 +19,7 @@ use std::hash::{Hash, Hasher};
 use std::marker::Model;
 
 /// A text of 16-bit units, which need not be UTF-16: half a surrogate pair may stand in it. It holds one
-/// allocation of its length and never changes.
+/// allocation and never changes.
 #[derive(Drop)]
 pub struct Text16 {
     units: Vec<u16>,
@@ -45,7 +45,7 @@ impl Text16 {
         Ok(Text16 { units })
     }
 
-    /// The UTF-16 units of the text.
+    /// The UTF-16 units of the text. It reserves a unit for each byte of the text.
     pub fn from_text(alloc: Global, text: &str) -> Result<Text16, AllocError>
         ensures { IfOk result (λ t. t ≡ flat_map encode_utf16 (chars text.now)) }
     {

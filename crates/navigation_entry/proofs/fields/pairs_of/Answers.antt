@@ -1,4 +1,4 @@
-use Rattle.std.proofs.Common.{◌≡◌, ◌++◌, ◌∷◌, [], Some, None, sym}
+use Rattle.std.proofs.Common.{◌≡◌, Some, None, sym}
 use Rattle.navigation_entry.specs.Display.{front, pair_at, pairs_at}
 use Rattle.navigation_entry.proofs.PairLaws.{pairs_go_on, pairs_stop, pairs_end}
 use Rattle.navigation_entry.proofs.fields.pairs_of.Goals as goal

@@ -1,4 +1,4 @@
-use Rattle.std.proofs.Common.{◌^◌, ◌<◌, rules, arith}
+use Rattle.std.proofs.Common.{◌^◌, ◌<◌, rules}
 use Rattle.navigation_entry.proofs.GroupLaws.{put_group_as, group_is}
 use Rattle.navigation_entry.proofs.group_reading.write_group.Goals as goal
 

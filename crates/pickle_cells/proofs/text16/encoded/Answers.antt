@@ -1,4 +1,4 @@
-use Rattle.std.proofs.Common.{◌≡◌, ap, ◌∙◌, sym, map-id}
+use Rattle.std.proofs.Common.{ap, ◌∙◌, sym, map-id}
 use Rattle.std.specs.List.{flat_map}
 use Rattle.std.specs.Char.Escape.{encode_utf16}
 use Rattle.std.proofs.lemmas.Iterator.{YieldsList-from_chars}

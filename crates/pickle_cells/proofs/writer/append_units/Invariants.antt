@@ -1,4 +1,4 @@
-use Rattle.std.proofs.Common.{◌≡◌, ◌+◌, ◌-◌, ◌*◌, ◌≤◌, ◌++◌, length, take}
+use Rattle.std.proofs.Common.{◌≡◌, ◌+◌, ◌*◌, ◌≤◌, ◌++◌, length, take}
 use Rattle.std.specs.Vec.{vec_len, vec_capacity}
 use Rattle.pickle_cells.specs.Cell.{unit_bytes}
 use Rattle.pickle_cells.proofs.writer.append_units.Given as goal

@@ -1,6 +1,4 @@
-use Rattle.std.proofs.Common.{◌≡◌, ℕ, List, length, Result, Ok, Err, refl, sym, ◌∙◌, arith, length-append}
-use Rattle.std.specs.Prelude.{IfOk}
-use Rattle.pickle_cells.specs.Cell.{IsPickle, uint32}
+use Rattle.std.proofs.Common.{◌∙◌, arith}
 use Rattle.pickle_cells.proofs.PickleLaws.{body_found_by, body_only_by}
 use Rattle.pickle_cells.proofs.cursor.Cursor.new.Goals as goal
 

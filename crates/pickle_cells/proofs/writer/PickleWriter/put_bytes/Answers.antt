@@ -1,5 +1,5 @@
-use Rattle.std.proofs.Common.{length, ap, arith}
-use Rattle.pickle_cells.specs.Cell.{string, unit_bytes}
+use Rattle.std.proofs.Common.{length, arith}
+use Rattle.pickle_cells.specs.Cell.{string}
 use Rattle.pickle_cells.proofs.ItemLaws.{counted_whole, length-counted}
 use Rattle.pickle_cells.proofs.Room.{HasRoom-more, length-more}
 use Rattle.pickle_cells.proofs.writer.PickleWriter.put_bytes.Goals as goal
