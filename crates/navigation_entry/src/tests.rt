@@ -2,12 +2,12 @@ use super::*;
 use pickle_cells::{Blob, PickleFault, Text16};
 use std::test::Fail;
 
-// A page at http://a/ titled Hi with three bytes of page state, as a tab's first page, visited at moment 100.
+// A page at http://a/ titled Hi with three bytes of page state, as a tab's first page.
 const PAYLOAD: [u8; 92] = [
     0x58, 0, 0, 0, 2, 0, 0, 0, 0, 0, 0, 0, 9, 0, 0, 0, 0x68, 0x74, 0x74, 0x70, 0x3A, 0x2F, 0x2F,
     0x61, 0x2F, 0, 0, 0, 2, 0, 0, 0, 0x48, 0, 0x69, 0, 3, 0, 0, 0, 0, 1, 2, 0, 0, 0, 0, 0, 0, 0, 0,
-    0, 0, 0, 0, 0, 0, 0, 0, 0, 0, 0, 0, 0, 0, 0, 0, 0, 100, 0, 0, 0, 0, 0, 0, 0, 0, 0, 0, 0, 0xC8,
-    0, 0, 0, 0, 0, 0, 0, 0, 0, 0, 0,
+    0, 0, 0, 0, 0, 0, 0, 0, 0, 0, 0, 0, 0, 0, 0, 0, 0, 0, 0, 0, 0, 0, 0, 0, 0, 0, 0, 0, 0, 0xC8, 0,
+    0, 0, 0, 0, 0, 0, 0, 0, 0, 0,
 ];
 
 #[test]
@@ -99,7 +99,7 @@ fn more_reads_all_fields_and_the_pairs_that_are_there(rt: HostRuntime) -> Result
     let all = read_more(rt.alloc(), &PAYLOAD[48..])?;
     assert_eq!(rt;
         (all.time, all.status, all.policy),
-        (Some(100), Some(200), Some(0))
+        (Some(0), Some(200), Some(0))
     );
     assert_eq!(rt; all.overriding, Some(false));
     assert_eq!(rt; all.info.as_slice().len(), 0);

@@ -1,6 +1,8 @@
 use super::*;
 use crate::status::Why;
+use session_commands::SessionCommand;
 use session_disk::{FixedClock, MemoryDisk, MemorySink, MemorySource};
+use snss_frames::{first_frame, write_frame};
 use std::fs;
 use std::process::Abort;
 use std::test::Fail;
@@ -250,4 +252,19 @@ fn each_answer_has_its_code(rt: HostRuntime) {
     ] {
         assert_eq!(rt; status.code(), code);
     }
+}
+
+#[test]
+fn a_frame_of_a_windows_app_is_read_and_written_again(rt: HostRuntime) -> Result<(), Fail> {
+    let bytes = [17, 0, 15, 12, 0, 0, 0, 1, 0, 0, 0, 2, 0, 0, 0, 97, 98, 0, 0];
+    let mut payload = Vec::new(rt.alloc());
+    let mut again = Vec::new(rt.alloc());
+    if let Some(frame) = first_frame(&bytes, 8) {
+        let command = SessionCommand::read(rt.alloc(), frame.id, frame.payload)?;
+        assert!(rt; matches!(command, SessionCommand::WindowApp { window: 1, .. }));
+        command.write(&mut payload)?;
+        write_frame(command.id(), &payload, &mut again)?;
+    }
+    assert_eq!(rt; again.as_slice(), bytes.as_slice());
+    Ok(())
 }
