@@ -1,0 +1,8 @@
+//! What tells groups of tabs apart.
+
+/// A group's token: two numbers, compared one after the other.
+#[derive(Clone, Copy, Debug, PartialEq, Eq, PartialOrd, Ord, Hash)]
+pub struct GroupId {
+    pub high: u64,
+    pub low: u64,
+}

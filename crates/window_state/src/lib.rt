@@ -1,0 +1,12 @@
+//! The state of a session's tabs, windows and groups, and the view of it that a user sees. Stands on pickle_cells
+//! and navigation_entry.
+#![tactic(auto)]
+
+mod extra;
+mod group_id;
+mod page_vec;
+mod pages;
+
+pub use extra::Extra;
+pub use group_id::GroupId;
+pub use pages::Pages;
