@@ -1,1 +1,2 @@
 pub mod PageLists
+pub mod RowLists

@@ -6,7 +6,14 @@ mod extra;
 mod group_id;
 mod page_vec;
 mod pages;
+mod rows;
+mod tab;
+mod text;
+mod window;
 
 pub use extra::Extra;
 pub use group_id::GroupId;
 pub use pages::Pages;
+pub use rows::{Changing, Row, Rows};
+pub use tab::{Tab, TabInfo};
+pub use window::{Window, WindowInfo};
