@@ -2,15 +2,21 @@
 //! and navigation_entry.
 #![tactic(auto)]
 
+mod change;
+mod current;
 mod extra;
 mod group_id;
+mod group_rows;
 mod page_vec;
 mod pages;
 mod rows;
 mod tab;
+mod tab_rows;
 mod text;
 mod window;
+mod window_rows;
 
+pub use change::{TabChange, TabStep, WindowChange};
 pub use extra::Extra;
 pub use group_id::GroupId;
 pub use pages::Pages;
