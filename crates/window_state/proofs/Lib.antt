@@ -1,3 +1,4 @@
 pub mod PageLaws
 pub mod ExtraLaws
 pub mod RowLaws
+pub mod StateLaws

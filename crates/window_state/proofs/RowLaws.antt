@@ -1,5 +1,5 @@
 -- A map of rows under their own keys, seen as the list of its rows: what each call of the map does to that list.
-use Rattle.std.proofs.Common.{◌≡◌, ◌≢◌, ℕ, Bool, true, false, cond, if◌then◌else◌, List, [], ◌∷◌, ◌++◌, map, length, Option, Some, None, refl, sym, ap, subst, ◌∙◌, append_assoc}
+use Rattle.std.proofs.Common.{◌≡◌, ◌≢◌, ℕ, suc, ◌+◌, ◌≤◌, is_some, nat_le, nat_eq, not, Bool, true, false, cond, if◌then◌else◌, List, [], ◌∷◌, ◌++◌, map, length, Option, Some, None, refl, sym, ap, subst, ◌∙◌, append_assoc, arith}
 use Rattle.std.specs.declared.cmp.Ordering.{Ordering}
 use Rattle.std.specs.declared.cmp.Ordering.TheVariants.{Less, Equal, Greater}
 use Rattle.std.specs.Ordering.{is_eq, match_ordering}
@@ -10,8 +10,15 @@ use Rattle.std.specs.Map.{keys_of, values_of, lookup, remove_entry, set_value}
 use Rattle.std.specs.BTreeMap.{insert_entry, is_at}
 use Rattle.std.proofs.lemmas.Map.{lookup-none}
 use Rattle.std.proofs.lemmas.Map.Keys.{sorted_head, sorted_tail}
-use Rattle.std.proofs.lemmas.Map.Entries.{none_below_head}
+use Rattle.std.proofs.lemmas.Map.Entries.{none_below_head, length-values_of}
+use Rattle.std.proofs.lemmas.Map.Steps.{set_value_same}
+use Rattle.std.proofs.lemmas.Bool.Decides.{nat_tests}
+use Rattle.window_state.specs.Limits.{limit}
 use Rattle.window_state.specs.RowLists.{find_row, put_row, step_row, without_row, IsKeyed}
+
+pub is_none : {X : Type 0} (o : Option X) → is_some o ≡ false → o ≡ None
+is_none None e = refl
+is_none (Some x) e = absurd cc
 
 module _ {K R : Type 0} (cmp : K → K → Ordering) (key : R → K) where
   pub find-values : (k : K) (es : List (K × R)) → IsKeyed key es → lookup (is_at (cmp k)) es ≡ find_row cmp key k (values_of es)
@@ -131,3 +138,125 @@ module _ {K R : Type 0} (cmp : K → K → Ordering) (key : R → K) where
       let whole' : es ++ (k, row) ∷ rest ≡ all = ap (λ l. es ++ l) (sym first) ∙ whole in
       let next = next_is_last total es rest k row (subst (λ l. IsStrictlySortedBy cmp (keys_of l)) (sym whole') sorted) in
       rw (put, same_key, same_row, next) (append_assoc es ((k, row) ∷ []) rest ∙ whole')
+
+  -- the keys of the entries are those of the rows
+  pub keys-values : (es : List (K × R)) → IsKeyed key es → keys_of es ≡ map key (values_of es)
+  keys-values [] keyed = refl
+  keys-values (e ∷ es) keyed = rw keyed.0 (ap (λ ks. key e.1 ∷ ks) (keys-values es keyed.1))
+
+  -- how many rows there are after a step
+  pub step-length : IsTotalOrder cmp → (k : K) (fresh : R) (change : R → R) (es : List (K × R)) → IsStrictlySortedBy cmp (keys_of es) → IsKeyed key es
+      → length (step_row cmp key k fresh change (values_of es)) ≡ length es + (if is_some (lookup (is_at (cmp k)) es) then 0 else 1)
+  step-length total k fresh change [] sorted keyed = refl
+  step-length total k fresh change (e ∷ es) sorted keyed = by (step-length total k fresh change es (sorted_tail cmp e.0 (keys_of es) sorted) keyed.1) (cmp k e.0) refl
+    where
+      by : length (step_row cmp key k fresh change (values_of es)) ≡ length es + (if is_some (lookup (is_at (cmp k)) es) then 0 else 1) → (o : Ordering) → cmp k e.0 ≡ o
+          → length (step_row cmp key k fresh change (values_of (e ∷ es))) ≡ length (e ∷ es) + (if is_some (lookup (is_at (cmp k)) (e ∷ es)) then 0 else 1)
+      by rest Less is =
+          let is' : cmp k (key e.1) ≡ Less = ap (cmp k) (sym keyed.0) ∙ is in
+          let none = lookup-none (is_at (cmp k)) (e ∷ es) (none_below_head total k e es sorted is) in
+          let n = length-values_of es in
+          rw (none, is') (omega (arith, n))
+      by rest Equal is =
+          let is' : cmp k (key e.1) ≡ Equal = ap (cmp k) (sym keyed.0) ∙ is in
+          let n = length-values_of es in
+          rw (is, is') (omega (arith, n))
+      by rest Greater is =
+          let is' : cmp k (key e.1) ≡ Greater = ap (cmp k) (sym keyed.0) ∙ is in
+          rw (is, is') (omega (arith, rest))
+
+  -- a fresh row put in unchanged, where none stands, and none where one does
+  pub made-values : IsTotalOrder cmp → (k : K) (fresh : R) (es : List (K × R)) → IsStrictlySortedBy cmp (keys_of es) → is_some (lookup (is_at (cmp k)) es) ≡ true → IsKeyed key es
+      → values_of es ≡ step_row cmp key k fresh (λ row. row) (values_of es)
+  made-values total k fresh es sorted found keyed = by (lookup (is_at (cmp k)) es) refl
+    where
+      by : (o : Option R) → lookup (is_at (cmp k)) es ≡ o → values_of es ≡ step_row cmp key k fresh (λ row. row) (values_of es)
+      by None is = let found' = rw is at found in absurd cc
+      by (Some r) is = ap values_of (sym (set_value_same (is_at (cmp k)) es r is)) ∙ set-values total k r fresh (λ row. row) es sorted is keyed
+
+  module _ (P : R → Type 0) where
+    -- what holds of all rows, after a step and after a removal
+    pub all-step : (k : K) (fresh : R) (change : R → R) (rows : List R) → P (change fresh) → ((r : R) → P r → P (change r)) → AllByRecursion P rows → AllByRecursion P (step_row cmp key k fresh change rows)
+    all-step k fresh change [] new old all = (new, tt)
+    all-step k fresh change (r ∷ rs) new old all =
+        let rest = all-step k fresh change rs new old all.1 in
+        elim (cmp k (key r)) as (λ o. AllByRecursion P (match_ordering o (change fresh ∷ r ∷ rs) (change r ∷ rs) (r ∷ step_row cmp key k fresh change rs)))
+        [ Less ↦ (new, all) | Equal ↦ (old r all.0, all.1) | Greater ↦ (all.0, rest) ]
+
+    pub all-without : (k : K) (rows : List R) → AllByRecursion P rows → AllByRecursion P (without_row cmp key k rows)
+    all-without k [] all = tt
+    all-without k (r ∷ rs) all =
+        let rest = all-without k rs all.1 in
+        elim (is_eq (cmp k (key r))) as (λ b. AllByRecursion P (cond b rs (r ∷ without_row cmp key k rs))) [ true ↦ all.1 | false ↦ (all.0, rest) ]
+
+  pub length-without : (k : K) (rows : List R) → length (without_row cmp key k rows) ≤ length rows
+  length-without k [] = omega arith
+  length-without k (r ∷ rs) =
+      let rest = length-without k rs in
+      elim (is_eq (cmp k (key r))) as (λ b. length (cond b rs (r ∷ without_row cmp key k rs)) ≤ suc (length rs)) [ true ↦ omega arith | false ↦ omega arith ]
+
+  -- room for one more row
+  pub room-present : IsTotalOrder cmp → (k : K) (es : List (K × R)) (rows : List R) → values_of es ≡ rows → IsStrictlySortedBy cmp (keys_of es) → IsKeyed key es → is_some (lookup (is_at (cmp k)) es) ≡ true
+      → length rows ≤ limit → (fresh : R) (change : R → R) → nat_le (length (step_row cmp key k fresh change rows)) limit ≡ true
+  room-present total k es rows view sorted keyed found small fresh change =
+      let n = rw (found, view) at (step-length total k fresh change es sorted keyed) in
+      let m = rw view at (length-values_of es) in
+      grind (arith, nat_tests)
+
+  pub room-absent : IsTotalOrder cmp → (k : K) (es : List (K × R)) (rows : List R) → values_of es ≡ rows → IsStrictlySortedBy cmp (keys_of es) → IsKeyed key es → is_some (lookup (is_at (cmp k)) es) ≡ false
+      → length rows ≤ limit → (fresh : R) (change : R → R) → nat_le (length (step_row cmp key k fresh change rows)) limit ≡ not (nat_eq (length es) limit)
+  room-absent total k es rows view sorted keyed found small fresh change =
+      let n = rw (found, view) at (step-length total k fresh change es sorted keyed) in
+      let m = rw view at (length-values_of es) in
+      grind (arith, nat_tests)
+
+  module _ (total : IsTotalOrder cmp) where
+    -- a row that stands does so after a step
+    pub stands-step : (q k : K) (fresh : R) (change : R → R) (rows : List R) → ((r : R) → key (change r) ≡ key r) → is_some (find_row cmp key q rows) ≡ true → is_some (find_row cmp key q (step_row cmp key k fresh change rows)) ≡ true
+    stands-step q k fresh change [] same found = absurd cc
+    stands-step q k fresh change (r ∷ rs) same found = by (stands-step q k fresh change rs same) (cmp k (key r)) refl
+      where
+        by : (is_some (find_row cmp key q rs) ≡ true → is_some (find_row cmp key q (step_row cmp key k fresh change rs)) ≡ true) → (o : Ordering) → cmp k (key r) ≡ o → is_some (find_row cmp key q (step_row cmp key k fresh change (r ∷ rs))) ≡ true
+        by rest Less is = rw is (elim (is_eq (cmp q (key (change fresh)))) as (λ b. is_some (if b then Some (change fresh) else find_row cmp key q (r ∷ rs)) ≡ true) [ true ↦ refl | false ↦ found ])
+        by rest Equal is = rw (is, same r) (subst (λ b. b ≡ true) (elim (is_eq (cmp q (key r))) as (λ b. is_some (if b then Some r else find_row cmp key q rs) ≡ is_some (if b then Some (change r) else find_row cmp key q rs)) [ true ↦ refl | false ↦ refl ]) found)
+        by rest Greater is = rw is (at (is_eq (cmp q (key r))) refl)
+          where
+            at : (b : Bool) → is_eq (cmp q (key r)) ≡ b → is_some (if is_eq (cmp q (key r)) then Some r else find_row cmp key q (step_row cmp key k fresh change rs)) ≡ true
+            at true e = rw e refl
+            at false e = rw e (rest (rw e at found))
+
+    -- the row of a step stands behind it
+    pub stands-made : (k : K) (fresh : R) (rows : List R) → cmp k k ≡ Equal → key fresh ≡ k → is_some (find_row cmp key k (step_row cmp key k fresh (λ row. row) rows)) ≡ true
+    stands-made k fresh [] itself own = rw (own, itself) refl
+    stands-made k fresh (r ∷ rs) itself own = by (stands-made k fresh rs itself own) (cmp k (key r)) refl
+      where
+        by : is_some (find_row cmp key k (step_row cmp key k fresh (λ row. row) rs)) ≡ true → (o : Ordering) → cmp k (key r) ≡ o → is_some (find_row cmp key k (step_row cmp key k fresh (λ row. row) (r ∷ rs))) ≡ true
+        by rest Less is = rw (is, own, itself) refl
+        by rest Equal is = rw (is, is) refl
+        by rest Greater is = rw (is, is) rest
+
+    -- a row stands where another goes
+    pub stands-without : ((x y : K) → cmp x y ≡ Equal → x ≡ y) → (q k : K) (rows : List R) → q ≢ k → is_some (find_row cmp key q rows) ≡ true → is_some (find_row cmp key q (without_row cmp key k rows)) ≡ true
+    stands-without exact q k [] apart found = absurd cc
+    stands-without exact q k (r ∷ rs) apart found = by (stands-without exact q k rs apart) (cmp k (key r)) refl (cmp q (key r)) refl
+      where
+        by : (is_some (find_row cmp key q rs) ≡ true → is_some (find_row cmp key q (without_row cmp key k rs)) ≡ true) → (o : Ordering) → cmp k (key r) ≡ o → (p : Ordering) → cmp q (key r) ≡ p → is_some (find_row cmp key q (without_row cmp key k (r ∷ rs))) ≡ true
+        by rest Equal is Equal at = absurd (apart (exact q (key r) at ∙ sym (exact k (key r) is)))
+        by rest Equal is Less at = rw is (rw at at found)
+        by rest Equal is Greater at = rw is (rw at at found)
+        by rest Less is Equal at = rw (is, at) refl
+        by rest Less is Less at = rw (is, at) (rest (rw at at found))
+        by rest Less is Greater at = rw (is, at) (rest (rw at at found))
+        by rest Greater is Equal at = rw (is, at) refl
+        by rest Greater is Less at = rw (is, at) (rest (rw at at found))
+        by rest Greater is Greater at = rw (is, at) (rest (rw at at found))
+
+  -- a fresh row that goes again
+  pub made-undone : (k : K) (fresh : R) (rows : List R) → cmp k k ≡ Equal → key fresh ≡ k → is_some (find_row cmp key k rows) ≡ false → without_row cmp key k (step_row cmp key k fresh (λ row. row) rows) ≡ rows
+  made-undone k fresh [] itself own absent = rw (own, itself) refl
+  made-undone k fresh (r ∷ rs) itself own absent = by (made-undone k fresh rs itself own) (cmp k (key r)) refl
+    where
+      by : (is_some (find_row cmp key k rs) ≡ false → without_row cmp key k (step_row cmp key k fresh (λ row. row) rs) ≡ rs) → (o : Ordering) → cmp k (key r) ≡ o → without_row cmp key k (step_row cmp key k fresh (λ row. row) (r ∷ rs)) ≡ r ∷ rs
+      by rest Less is = rw (is, own, itself) refl
+      by rest Equal is = let no = rw is at absent in absurd cc
+      by rest Greater is = rw (is, is) (ap (λ rs'. r ∷ rs') (rest (rw is at absent)))

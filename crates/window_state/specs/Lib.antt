@@ -1,6 +1,9 @@
+pub mod Limits
 pub mod PageLists
 pub mod RowLists
 pub mod Keys
 pub mod KeyLaws
 pub mod Changes
+pub mod Fits
+pub mod States
 pub use Rattle.pickle_cells.specs.Cell

@@ -1,13 +1,19 @@
 //! An ordered map of rows, each of which says its own key, seen as the list of the rows by rising key.
-ghost use Rattle.std.specs.Prelude.{◌≡◌, [], length, is_some, IfOk, OnOk, OnErr};
+ghost use Rattle.std.specs.Prelude.{◌≡◌, ◌≤◌, nat_le, [], length, map, filter, not, is_some, true, IfOk, OnOk, OnErr};
 ghost use Rattle.std.specs.Option.{option_copied};
-ghost use Rattle.std.specs.Ordering.{is_eq};
+ghost use Rattle.std.specs.List.Sorted.{IsStrictlySortedBy};
 ghost use Rattle.std.specs.declared.cmp.Ordering.TheVariants.{Equal};
+ghost use Rattle.window_state.specs.Limits.{limit};
+ghost use Rattle.window_state.specs.States.{is_in};
 ghost use Rattle.window_state.specs.RowLists.{find_row, put_row, step_row, without_row};
 
+use crate::tab::Tab;
 use std::alloc::{AllocError, Global};
 use std::collections::BTreeMap;
 use std::marker::Model;
+
+/// The most tabs, and the most windows, of a state.
+pub const LIMIT: usize = 1_048_576;
 
 /// A row of a map, under a key that it says itself.
 pub trait Row: Drop {
@@ -71,7 +77,8 @@ impl<R: Row> Rows<R> {
     }
 
     pub fn len(&self) -> usize
-        ensures { result ≡ length self.now }
+        ensures length { result ≡ length self.now }
+        ensures ordered { IsStrictlySortedBy R.Key.cmp (map R.key self.now) }
     {
         self.rows.len()
     }
@@ -80,6 +87,18 @@ impl<R: Row> Rows<R> {
         ensures { option_copied result ≡ find_row R.Key.cmp R.key id self.now }
     {
         self.rows.get(&id)
+    }
+
+    /// Whether there are as many rows as there may be, and none with the key.
+    pub fn is_full_for(&self, id: R::Key) -> bool
+        requires { length self.now ≤ limit }
+        ensures { (fresh : R) (change : R → R) → nat_le (length (step_row R.Key.cmp R.key id fresh change self.now)) limit ≡ not result }
+    {
+        let len = self.rows.len();
+        if self.rows.contains_key(&id) {
+            return false;
+        }
+        len == LIMIT
     }
 
     pub fn has(&self, id: R::Key) -> bool
@@ -118,6 +137,21 @@ impl<R: Row> Rows<R> {
 }
 
 impl<R: Changing> Rows<R> {
+    /// A fresh row with the key is put in where none has it.
+    pub fn make(&mut self, alloc: Global, id: R::Key) -> Result<(), AllocError>
+        ensures ok { OnOk result (self.new ≡ step_row R.Key.cmp R.key id (R.fresh id) (λ row. row) self.old) }
+        ensures stood { is_some (find_row R.Key.cmp R.key id self.old) ≡ true → self.new ≡ self.old }
+        ensures err { OnErr result (self.new ≡ self.old) }
+    {
+        // The length says that the keys are in order.
+        let _len = self.rows.len();
+        if self.rows.contains_key(&id) {
+            return Ok(());
+        }
+        self.rows.insert(id, R::fresh(alloc, id))?;
+        Ok(())
+    }
+
     /// The row with the key is changed; where there is none, a fresh one is changed and put in.
     pub fn step(&mut self, alloc: Global, id: R::Key, change: R::Change) -> Result<(), AllocError>
         ensures ok { OnOk result (self.new ≡ step_row R.Key.cmp R.key id (R.fresh id) (R.changed change) self.old) }
@@ -132,5 +166,23 @@ impl<R: Changing> Rows<R> {
                 Ok(())
             }
         }
+    }
+}
+
+impl Rows<Tab> {
+    /// The tabs of a window go. It looks at every tab.
+    pub(crate) fn leave(&mut self, window: i32)
+        ensures { self.new ≡ filter (λ tab. not (is_in window tab.window)) self.old }
+    {
+        self.rows.retain(|_, tab| !is_in(window, tab));
+    }
+}
+
+fn is_in(window: i32, tab: &Tab) -> bool
+    ensures { result ≡ is_in window tab.now.window }
+{
+    match tab.window {
+        Some(own) => own == window,
+        None => false,
     }
 }

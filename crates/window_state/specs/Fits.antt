@@ -1,0 +1,61 @@
+-- Which texts of a tab or a window the payloads of their commands can hold.
+use Rattle.std.specs.Prelude.{◌≡◌, ℕ, ◌+◌, ◌%◌, ◌≤◌, List, length, IfSome}
+use Rattle.std.specs.List.{AllByRecursion}
+use Rattle.pickle_cells.specs.Cell.{string_size}
+use Rattle.window_state.specs.declared.tab.Tab.{Tab}
+use Rattle.window_state.specs.declared.window.Window.{Window}
+use Rattle.window_state.specs.declared.change.TabChange.{TabChange}
+use Rattle.window_state.specs.declared.change.TabChange.TheVariants as tab
+use Rattle.window_state.specs.declared.change.WindowChange.{WindowChange}
+use Rattle.window_state.specs.declared.change.WindowChange.TheVariants as window
+
+-- a number and a text
+abbrev pub FitsText : List ℕ → Type 0
+FitsText text = 8 + string_size (length text) ≤ 65534
+
+-- a number and whole words behind it
+abbrev pub FitsRest : List ℕ → Type 0
+FitsRest rest = (length rest % 4 ≡ 0) × (8 + length rest ≤ 65534)
+
+-- a number, a key and its value
+abbrev pub FitsPair : List ℕ × List ℕ → Type 0
+FitsPair pair = 8 + string_size (length pair.0) + string_size (length pair.1) ≤ 65534
+
+pub record TabFits (t : Tab) : Type 0 where
+  pub extension : IfSome t.info.extension FitsText
+  pub storage : IfSome t.info.storage FitsText
+  pub guid : IfSome t.info.guid FitsText
+  pub agent : IfSome t.info.agent FitsRest
+  pub extra : AllByRecursion FitsPair t.info.extra
+
+pub record WindowFits (w : Window) : Type 0 where
+  pub app : IfSome w.info.app FitsText
+  pub workspace : IfSome w.info.workspace FitsText
+  pub title : IfSome w.info.title FitsText
+  pub extra : AllByRecursion FitsPair w.info.extra
+
+abbrev pub TabChangeFits : TabChange → Type 0
+TabChangeFits (tab.Extension text) = FitsText text
+TabChangeFits (tab.Storage text) = FitsText text
+TabChangeFits (tab.Guid text) = FitsText text
+TabChangeFits (tab.Agent rest) = FitsRest rest
+TabChangeFits (tab.ExtraValue key value) = FitsPair (key, value)
+TabChangeFits (tab.Index index) = Unit {0}
+TabChangeFits (tab.Page index navigation) = Unit {0}
+TabChangeFits (tab.Current index) = Unit {0}
+TabChangeFits (tab.PruneBack index) = Unit {0}
+TabChangeFits (tab.PruneFront count) = Unit {0}
+TabChangeFits (tab.Prune index count) = Unit {0}
+TabChangeFits (tab.Pinned pinned) = Unit {0}
+TabChangeFits (tab.Group group) = Unit {0}
+TabChangeFits (tab.LastActive time) = Unit {0}
+
+abbrev pub WindowChangeFits : WindowChange → Type 0
+WindowChangeFits (window.App text) = FitsText text
+WindowChangeFits (window.Workspace text) = FitsText text
+WindowChangeFits (window.Title text) = FitsText text
+WindowChangeFits (window.ExtraValue key value) = FitsPair (key, value)
+WindowChangeFits (window.Selected index) = Unit {0}
+WindowChangeFits (window.Kind kind) = Unit {0}
+WindowChangeFits (window.Bounded bounds) = Unit {0}
+WindowChangeFits (window.AllWorkspaces all) = Unit {0}

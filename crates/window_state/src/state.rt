@@ -1,0 +1,196 @@
+//! The state of a session.
+ghost use Rattle.std.specs.Prelude.{◌≡◌, ℤ, Some, IfOk, OnOk, OnErr};
+ghost use Rattle.std.specs.Ordering.{int_cmp};
+ghost use Rattle.window_state.specs.RowLists.{step_row};
+ghost use Rattle.window_state.specs.Keys.{tab_key, window_key};
+ghost use Rattle.window_state.specs.Changes.{new_tab, new_window};
+
+use crate::change::{TabChange, TabStep, WindowChange};
+use crate::rows::Rows;
+use crate::tab::Tab;
+use crate::window::Window;
+use navigation_entry::GroupInfo;
+use std::alloc::{AllocError, Global};
+use std::marker::Model;
+
+/// Tabs and windows by rising id, groups of tabs by rising token, and the active window, which need not stand. At
+/// most 1,048,576 tabs and as many windows; a tab's window stands, and every text fits the payload of its command.
+#[derive(Drop)]
+pub struct SessionState {
+    tabs: Rows<Tab>,
+    windows: Rows<Window>,
+    groups: Rows<GroupInfo>,
+    active: Option<i32>,
+    alloc: Global,
+}
+
+impl Model for SessionState {
+    ghost use Rattle.window_state.specs.States.{State, IsKept};
+
+    ghost Value = { State };
+
+    ghost view = { λ s. record { tabs = s.tabs; windows = s.windows; groups = s.groups; active = s.active } };
+
+    ghost invariant = { λ s. IsKept (record { tabs = s.tabs; windows = s.windows; groups = s.groups; active = s.active }) };
+}
+
+impl SessionState {
+    ghost use Rattle.window_state.specs.States.{IsKept, start, on_tab, on_window, placed, with_group, with_active, tab_closed, window_closed};
+    ghost use Rattle.window_state.specs.Changes.{changed_tab, changed_window};
+    ghost use Rattle.window_state.specs.Fits.{TabChangeFits, WindowChangeFits};
+
+    /// No tabs, windows and groups.
+    pub fn start(alloc: Global) -> Result<SessionState, AllocError>
+        ensures { IfOk result (λ s. s ≡ start) }
+    {
+        Ok(SessionState {
+            tabs: Rows::new(alloc),
+            windows: Rows::new(alloc),
+            groups: Rows::new(alloc),
+            active: None,
+            alloc,
+        })
+    }
+
+    /// What every state keeps, for proofs.
+    pub fn known(&self)
+        ensures { IsKept self.now }
+    {
+        let _tabs = &self.tabs;
+    }
+
+    pub fn tabs(&self) -> &Rows<Tab>
+        ensures { result.now ≡ self.now.tabs }
+    {
+        &self.tabs
+    }
+
+    pub fn windows(&self) -> &Rows<Window>
+        ensures { result.now ≡ self.now.windows }
+    {
+        &self.windows
+    }
+
+    pub fn groups(&self) -> &Rows<GroupInfo>
+        ensures { result.now ≡ self.now.groups }
+    {
+        &self.groups
+    }
+
+    pub fn active(&self) -> Option<i32>
+        ensures { result ≡ self.now.active }
+    {
+        self.active
+    }
+
+    /// The tab is made where it isn't there, and changed. Where it would be one too many, nothing changes.
+    pub fn change_tab(&mut self, id: i32, change: TabChange) -> Result<(), AllocError>
+        requires { TabChangeFits change }
+        ensures ok { OnOk result (self.new ≡ on_tab id (changed_tab change) self.old) }
+        ensures err { OnErr result (self.new ≡ self.old) }
+    {
+        if self.tabs.is_full_for(id) {
+            return Ok(());
+        }
+        self.tabs.step(self.alloc, id, TabStep::Changed(change))
+    }
+
+    /// The window is made where it isn't there, and changed. Where it would be one too many, nothing changes.
+    pub fn change_window(&mut self, id: i32, change: WindowChange) -> Result<(), AllocError>
+        requires { WindowChangeFits change }
+        ensures ok { OnOk result (self.new ≡ on_window id (changed_window change) self.old) }
+        ensures err { OnErr result (self.new ≡ self.old) }
+    {
+        if self.windows.is_full_for(id) {
+            return Ok(());
+        }
+        self.windows.step(self.alloc, id, change)
+    }
+
+    /// The group takes the place of the one with its token, or is put in.
+    pub fn put_group(&mut self, group: GroupInfo) -> Result<(), AllocError>
+        ensures ok { OnOk result (self.new ≡ with_group group self.old) }
+        ensures err { OnErr result (self.new ≡ self.old) }
+    {
+        self.groups.put(group)
+    }
+
+    pub fn set_active(&mut self, window: i32)
+        ensures { self.new ≡ with_active window self.old }
+    {
+        self.active = Some(window);
+    }
+
+    /// The tab goes, where it is there.
+    pub fn close_tab(&mut self, id: i32)
+        ensures { self.new ≡ tab_closed id self.old }
+    {
+        self.tabs.remove(id);
+    }
+
+    /// The tab stands in the window; both are made where they aren't there. Where one would be one too many, nothing
+    /// changes.
+    pub fn place_tab(&mut self, window: i32, tab: i32) -> Result<(), AllocError>
+        ensures ok { OnOk result (self.new ≡ placed window tab self.old) }
+        ensures err { OnErr result (self.new ≡ self.old) }
+    {
+        if self.windows.is_full_for(window) {
+            return Ok(());
+        }
+        if self.tabs.is_full_for(tab) {
+            return Ok(());
+        }
+        place(&mut self.windows, &mut self.tabs, self.alloc, window, tab)
+    }
+
+    /// The window and its tabs go, where it stands.
+    pub fn close_window(&mut self, id: i32)
+        ensures { self.new ≡ window_closed id self.old }
+    {
+        if self.windows.has(id) {
+            self.windows.remove(id);
+            self.tabs.leave(id);
+        }
+    }
+
+    /// The same state, in memory of its own.
+    pub fn copy(&self) -> Result<SessionState, AllocError>
+        ensures { IfOk result (λ s. s ≡ self.now) }
+    {
+        let tabs = self.tabs.copy(self.alloc)?;
+        let windows = self.windows.copy(self.alloc)?;
+        let groups = self.groups.copy(self.alloc)?;
+        Ok(SessionState {
+            tabs,
+            windows,
+            groups,
+            active: self.active,
+            alloc: self.alloc,
+        })
+    }
+}
+
+// The window is made first: where the tab then finds no memory, a fresh window goes again.
+fn place(
+    windows: &mut Rows<Window>,
+    tabs: &mut Rows<Tab>,
+    alloc: Global,
+    window: i32,
+    tab: i32,
+) -> Result<(), AllocError>
+    ensures windows { OnOk result (windows.new ≡ step_row int_cmp window_key window (new_window window) (λ w. w) windows.old) }
+    ensures tabs { OnOk result (tabs.new ≡ step_row int_cmp tab_key tab (new_tab tab) (λ t. record t { window = Some window }) tabs.old) }
+    ensures err { OnErr result ((windows.new ≡ windows.old) × (tabs.new ≡ tabs.old)) }
+{
+    let stood = windows.has(window);
+    windows.make(alloc, window)?;
+    match tabs.step(alloc, tab, TabStep::Placed(window)) {
+        Ok(()) => Ok(()),
+        Err(error) => {
+            if !stood {
+                windows.remove(window);
+            }
+            Err(error)
+        }
+    }
+}
