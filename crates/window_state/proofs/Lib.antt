@@ -2,3 +2,4 @@ pub mod PageLaws
 pub mod ExtraLaws
 pub mod RowLaws
 pub mod StateLaws
+mod WorkedPrunings

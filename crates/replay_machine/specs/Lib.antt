@@ -1,0 +1,5 @@
+pub mod Step
+pub use Rattle.window_state.specs.States
+pub use Rattle.window_state.specs.Changes
+pub use Rattle.window_state.specs.PageLists
+pub use Rattle.session_commands.specs.Table
