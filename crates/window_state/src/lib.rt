@@ -25,3 +25,6 @@ pub use rows::{Changing, Row, Rows};
 pub use state::SessionState;
 pub use tab::{Tab, TabInfo};
 pub use window::{Window, WindowInfo};
+
+#[cfg(test)]
+mod tests;
