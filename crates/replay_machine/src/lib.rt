@@ -4,3 +4,6 @@
 mod steps;
 
 pub use steps::apply;
+
+#[cfg(test)]
+mod tests;

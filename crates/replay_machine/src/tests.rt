@@ -1,0 +1,73 @@
+use super::*;
+use session_commands::SessionCommand;
+use std::alloc::Global;
+use std::test::Fail;
+use window_state::SessionState;
+
+// A page at http://a/ titled Hi with three bytes of page state, as the first page of tab 2.
+const PAGE: [u8; 92] = [
+    0x58, 0, 0, 0, 2, 0, 0, 0, 0, 0, 0, 0, 9, 0, 0, 0, 0x68, 0x74, 0x74, 0x70, 0x3A, 0x2F, 0x2F,
+    0x61, 0x2F, 0, 0, 0, 2, 0, 0, 0, 0x48, 0, 0x69, 0, 3, 0, 0, 0, 0, 1, 2, 0, 0, 0, 0, 0, 0, 0, 0,
+    0, 0, 0, 0, 0, 0, 0, 0, 0, 0, 0, 0, 0, 0, 0, 0, 0, 100, 0, 0, 0, 0, 0, 0, 0, 0, 0, 0, 0, 0xC8,
+    0, 0, 0, 0, 0, 0, 0, 0, 0, 0, 0,
+];
+
+const IN_WINDOW: [u8; 8] = [1, 0, 0, 0, 2, 0, 0, 0];
+
+fn replayed(alloc: Global, commands: &[(u8, &[u8])]) -> Result<SessionState, Fail> {
+    let mut state = SessionState::start(alloc)?;
+    for (id, payload) in commands {
+        if payload.len() <= 65_534 {
+            let command = SessionCommand::read(alloc, *id, payload)?;
+            apply(&mut state, &command)?;
+        }
+    }
+    Ok(state)
+}
+
+#[test]
+fn a_tab_named_after_its_window_closed_is_new(rt: HostRuntime) -> Result<(), Fail> {
+    let state = replayed(
+        rt.alloc(),
+        &[
+            (0, IN_WINDOW.as_slice()),
+            (6, PAGE.as_slice()),
+            (
+                17,
+                [1, 0, 0, 0, 0, 0, 0, 0, 5, 0, 0, 0, 0, 0, 0, 0].as_slice(),
+            ),
+            (2, [2, 0, 0, 0, 3, 0, 0, 0].as_slice()),
+        ],
+    )?;
+    assert_eq!(rt; (state.windows().len(), state.tabs().len()), (0, 1));
+    let tab = state.tabs().get(2).ok_or("no tab")?;
+    assert_eq!(rt; (tab.window, tab.index, tab.pages.len()), (None, 3, 0));
+    Ok(())
+}
+
+#[test]
+fn texts_and_values_are_kept(rt: HostRuntime) -> Result<(), Fail> {
+    let extension = [12, 0, 0, 0, 2, 0, 0, 0, 2, 0, 0, 0, 0x61, 0x62, 0, 0];
+    let value = [
+        20, 0, 0, 0, 1, 0, 0, 0, 1, 0, 0, 0, 0x61, 0, 0, 0, 1, 0, 0, 0, 0x31, 0, 0, 0,
+    ];
+    let state = replayed(
+        rt.alloc(),
+        &[
+            (0, IN_WINDOW.as_slice()),
+            (6, PAGE.as_slice()),
+            (13, extension.as_slice()),
+            (34, value.as_slice()),
+            (20, [1, 0, 0, 0].as_slice()),
+            (255, [].as_slice()),
+        ],
+    )?;
+    let tab = state.tabs().get(2).ok_or("no tab")?;
+    assert_eq!(rt; (tab.window, tab.pages.len()), (Some(1), 1));
+    let kept = tab.info.extension.as_ref().ok_or("no extension")?;
+    assert_eq!(rt; kept.as_slice(), b"ab".as_slice());
+    let window = state.windows().get(1).ok_or("no window")?;
+    assert_eq!(rt; window.info.extra.len(), 1);
+    assert_eq!(rt; state.active(), Some(1));
+    Ok(())
+}
