@@ -3,3 +3,4 @@ pub mod ExtraLaws
 pub mod RowLaws
 pub mod StateLaws
 mod WorkedPrunings
+mod WorkedViews

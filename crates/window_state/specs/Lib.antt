@@ -6,4 +6,5 @@ pub mod KeyLaws
 pub mod Changes
 pub mod Fits
 pub mod States
+pub mod Views
 pub use Rattle.pickle_cells.specs.Cell

@@ -7,6 +7,7 @@ mod current;
 mod extra;
 mod group_id;
 mod group_rows;
+mod items;
 mod page_vec;
 mod pages;
 mod rows;
@@ -14,16 +15,19 @@ mod state;
 mod tab;
 mod tab_rows;
 mod text;
+mod view_parts;
 mod window;
 mod window_rows;
 
 pub use change::{TabChange, TabStep, WindowChange};
 pub use extra::Extra;
 pub use group_id::GroupId;
+pub use items::Items;
 pub use pages::Pages;
 pub use rows::{Changing, Row, Rows};
 pub use state::SessionState;
 pub use tab::{Tab, TabInfo};
+pub use view_parts::{View, ViewTab, ViewWindow};
 pub use window::{Window, WindowInfo};
 
 #[cfg(test)]
