@@ -18,6 +18,10 @@ impl<T> Model for Items<T> {
 }
 
 impl<T> Items<T> {
+    ghost use Rattle.std.specs.Borrow.{Lends, sem};
+    ghost use Rattle.window_state.specs.contracts.items.Items.{the_row};
+    ghost use Rattle.window_state.specs.Lent.{items_row};
+
     pub fn from_vec(list: Vec<T>) -> Items<T>
         ensures { result ≡ list.items }
     {
@@ -28,6 +32,14 @@ impl<T> Items<T> {
         ensures { result.now ≡ self.now }
     {
         self.items.as_slice()
+    }
+
+    /// The vector itself, which may be changed.
+    pub fn as_mut_vec(&mut self) -> &mut Vec<T>
+        ensures* writes_back { sem 𝓛 (Lends (the_row T.row) (items_row T.row) self.entry result (λ v. v.items)) }
+        ensures value { result.now.items ≡ self.old }
+    {
+        &mut self.items
     }
 
     pub fn into_vec(self) -> Vec<T>
