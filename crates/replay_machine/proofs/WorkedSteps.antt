@@ -1,10 +1,10 @@
 -- States after a few commands, as the definitions compute them.
-use Rattle.std.proofs.Common.{◌≡◌, ℤ, pos, negsuc, true, false, List, [], ◌∷◌, Some, None, refl}
+use Rattle.std.proofs.Common.{◌≡◌, pos, negsuc, false, [], ◌∷◌, Some, None, refl}
 use Rattle.navigation_entry.specs.declared.navigation.Navigation.{Navigation}
-use Rattle.session_commands.specs.declared.command.SessionCommand.TheVariants.{TabWindow, TabIndex, UpdateNavigation, WindowClosed, Pinned, PrunedFront, TabClosed, ActiveWindow, TabGroup}
+use Rattle.session_commands.specs.declared.command.SessionCommand.TheVariants.{TabWindow, TabIndex, UpdateNavigation, WindowClosed, Pinned, PrunedFront, TabClosed, ActiveWindow}
 use Rattle.window_state.specs.Changes.{new_tab, new_window}
 use Rattle.window_state.specs.States.{start}
-use Rattle.replay_machine.specs.Step.{step, fold}
+use Rattle.replay_machine.specs.Step.{fold}
 
 -- a tab whose window was closed, named again later, is new
 named_again : (n : Navigation) → fold start (TabWindow (pos 1) (pos 2) ∷ UpdateNavigation (pos 2) (pos 0) n ∷ WindowClosed (pos 1) (pos 5) ∷ TabIndex (pos 2) (pos 3) ∷ [])

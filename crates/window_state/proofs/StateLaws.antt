@@ -1,5 +1,5 @@
 -- What every state keeps, after each change.
-use Rattle.std.proofs.Common.{◌≡◌, ◌≢◌, ℕ, ◌≤◌, nat_le, ℤ, Bool, true, false, not, cond, ◌&&◌, List, [], ◌∷◌, filter, length, Option, Some, None, Result, Ok, Err, OnOk, OnErr, IfSome, is_some, if◌then◌else◌, refl, sym, ap, subst, ◌∙◌, true≢false, arith}
+use Rattle.std.proofs.Common.{◌≡◌, ◌≢◌, ℕ, ◌≤◌, nat_le, ℤ, Bool, true, false, not, cond, ◌&&◌, List, [], ◌∷◌, filter, length, Option, Some, None, Result, Ok, Err, OnOk, OnErr, IfSome, if◌then◌else◌, refl, sym, ap, subst, ◌∙◌, true≢false, arith}
 use Rattle.std.proofs.lemmas.Int.{ints}
 use Rattle.std.proofs.lemmas.Bool.Decides.{nat_tests}
 use Rattle.std.proofs.lemmas.Map.Lookups.{exact_signed}
@@ -10,7 +10,6 @@ use Rattle.std.specs.List.{AllByRecursion}
 use Rattle.std.specs.Map.{values_of}
 use Rattle.std.specs.Cmp.Lexicographic.{pointwise}
 use Rattle.std.specs.Prelude.{nat_eq}
-use Rattle.indexmap.specs.IndexMap.{insert_entry}
 use Rattle.window_state.specs.declared.tab.Tab.{Tab}
 use Rattle.window_state.specs.declared.window.Window.{Window}
 use Rattle.window_state.specs.declared.change.TabChange.{TabChange}
@@ -18,11 +17,11 @@ use Rattle.window_state.specs.declared.change.TabChange.TheVariants as tab
 use Rattle.window_state.specs.declared.change.WindowChange.{WindowChange}
 use Rattle.window_state.specs.declared.change.WindowChange.TheVariants as window
 use Rattle.window_state.specs.Limits.{limit}
-use Rattle.window_state.specs.RowLists.{find_row, step_row, without_row, IsKeyed}
+use Rattle.window_state.specs.RowLists.{step_row, without_row, IsKeyed}
 use Rattle.window_state.specs.Keys.{tab_key, window_key}
 use Rattle.window_state.specs.Changes.{new_tab, new_window, changed_tab, changed_window, set_pair}
 use Rattle.window_state.specs.Fits.{FitsPair, TabFits, WindowFits, TabChangeFits, WindowChangeFits}
-use Rattle.window_state.specs.States.{State, IsKept, HasWindow, is_in, stands, with_tab, with_window, with_both, on_tab, on_window, placed, tab_closed, without_window, window_closed}
+use Rattle.window_state.specs.States.{State, IsKept, HasWindow, is_in, stands, with_tab, with_window, with_both, on_tab, on_window, placed, tab_closed, without_window}
 use Rattle.window_state.proofs.RowLaws.{all-step, all-without, length-without, stands-step, stands-made, stands-without}
 
 -- what holds of the new value and of the old one holds of what a call leaves

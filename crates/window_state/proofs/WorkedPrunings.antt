@@ -1,5 +1,5 @@
 -- Prunings of small lists, as the definitions compute them.
-use Rattle.std.proofs.Common.{◌≡◌, ℤ, pos, negsuc, List, [], ◌∷◌, nat_eq, refl}
+use Rattle.std.proofs.Common.{◌≡◌, pos, negsuc, [], ◌∷◌, refl}
 use Rattle.navigation_entry.specs.declared.navigation.Navigation.{Navigation}
 use Rattle.window_state.specs.PageLists.{prune, prune_back, prune_front}
 use Rattle.window_state.specs.Changes.{put_page, current_front, current_pruned, set_pair}

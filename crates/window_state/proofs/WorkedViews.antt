@@ -1,5 +1,5 @@
 -- Views of small states, as the definition computes them.
-use Rattle.std.proofs.Common.{◌≡◌, ℤ, pos, negsuc, List, [], ◌∷◌, Some, None, refl}
+use Rattle.std.proofs.Common.{◌≡◌, pos, negsuc, [], ◌∷◌, Some, None, refl}
 use Rattle.navigation_entry.specs.declared.navigation.Navigation.{Navigation}
 use Rattle.window_state.specs.Changes.{new_tab, new_window}
 use Rattle.window_state.specs.States.{start}

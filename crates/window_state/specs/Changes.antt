@@ -1,15 +1,12 @@
 -- What a tab and a window are when they are made, and what each change makes of them.
-use Rattle.std.specs.Prelude.{ℕ, ◌+◌, ◌≤◌, ◌≡◌, ◌%◌, ℤ, pos, negsuc, ◌-ℤ◌, int_lt, int_le, Bool, true, false, ◌&&◌, if◌then◌else◌, List, [], length, nat_eq, Option, Some, None, IfSome}
+use Rattle.std.specs.Prelude.{ℕ, ℤ, pos, negsuc, ◌-ℤ◌, int_lt, false, ◌&&◌, if◌then◌else◌, List, [], nat_eq, Some, None}
 use Rattle.std.specs.Int.{int_max}
-use Rattle.std.specs.List.{AllByRecursion}
 use Rattle.std.specs.Ordering.{int_cmp}
 use Rattle.std.specs.BTreeMap.{insert_entry}
 use Rattle.std.specs.Cmp.Lexicographic.{pointwise}
 use Rattle.indexmap.specs.IndexMap as pairs
 use Rattle.navigation_entry.specs.declared.navigation.Navigation.{Navigation}
-use Rattle.pickle_cells.specs.Cell.{string_size}
 use Rattle.window_state.specs.PageLists.{is_natural, is_positive, is_pruned, prune, prune_back, prune_front}
-use Rattle.window_state.specs.declared.tab.TabInfo.{TabInfo}
 use Rattle.window_state.specs.declared.tab.Tab.{Tab}
 use Rattle.window_state.specs.declared.window.Window.{Window}
 use Rattle.window_state.specs.declared.change.TabChange.{TabChange}

@@ -1,6 +1,6 @@
 -- The state of a session: tabs and windows by rising id, groups by rising token, and the active window. A change
 -- first makes the tab or the window that it names; where that would be one too many, nothing changes.
-use Rattle.std.specs.Prelude.{◌≡◌, ℕ, ◌≤◌, nat_le, ℤ, Bool, false, true, not, ◌&&◌, List, [], length, filter, Option, Some, None, is_some, IfSome, IsTrue, if◌then◌else◌}
+use Rattle.std.specs.Prelude.{◌≤◌, nat_le, ℤ, Bool, false, not, ◌&&◌, List, [], length, filter, Option, Some, None, is_some, IfSome, IsTrue, if◌then◌else◌}
 use Rattle.std.specs.List.{AllByRecursion}
 use Rattle.std.specs.Ordering.{int_cmp, int_eq}
 use Rattle.navigation_entry.specs.declared.group.GroupInfo.{GroupInfo}

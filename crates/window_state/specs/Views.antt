@@ -1,6 +1,6 @@
 -- What a user sees of a state: the tabs that have a window and a page, sorted by their places, and the windows that
 -- have such a tab.
-use Rattle.std.specs.Prelude.{ℕ, zero, suc, ◌==◌, ℤ, int_le, Bool, true, false, not, ◌&&◌, if◌then◌else◌, List, [], ◌∷◌, map, filter, Option, Some, None}
+use Rattle.std.specs.Prelude.{ℕ, zero, suc, ◌==◌, ℤ, int_le, Bool, true, false, ◌&&◌, if◌then◌else◌, List, [], ◌∷◌, map, filter, Option, Some, None}
 use Rattle.std.specs.List.{list_any}
 use Rattle.std.specs.Ordering.{int_cmp, int_eq, ordering_then, match_ordering}
 use Rattle.std.specs.declared.cmp.Ordering.{Ordering}

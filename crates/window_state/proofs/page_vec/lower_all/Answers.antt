@@ -1,4 +1,4 @@
-use Rattle.std.proofs.Common.{w32, to_z, of_z, get_or}
+use Rattle.std.proofs.Common.{w32, to_z, of_z}
 use Rattle.std.proofs.lemmas.List.Edits.{map_over_more}
 use Rattle.window_state.specs.PageLists.{lowered}
 use Rattle.window_state.proofs.page_vec.lower_all.Goals as goal

@@ -1,4 +1,4 @@
-use Rattle.std.proofs.Common.{◌≡◌, ℤ, rules, not, ap, sym, ◌∙◌, map, length, FitsSigned, w32, arith}
+use Rattle.std.proofs.Common.{rules, not, FitsSigned, w32}
 use Rattle.std.proofs.lemmas.Fn.{filter_same}
 use Rattle.std.proofs.lemmas.Int.{to_z-of_z}
 use Rattle.window_state.specs.PageLists.{is_pruned, lowered}

@@ -1,4 +1,4 @@
-use Rattle.std.proofs.Common.{FitsSigned, w32, ◌≡◌, ◌<ℤ◌, pos, int_lt, true, arith, ◌∙◌}
+use Rattle.std.proofs.Common.{FitsSigned, w32, ◌≡◌, pos, int_lt, true, arith, ◌∙◌}
 use Rattle.std.proofs.lemmas.Int.{ints, to_z-of_z}
 use Rattle.window_state.proofs.PageLaws.{rising-pruned, prune-front}
 use Rattle.window_state.proofs.pages.Pages.prune_front.Goals as goal

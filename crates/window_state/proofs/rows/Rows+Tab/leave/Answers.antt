@@ -1,4 +1,4 @@
-use Rattle.std.proofs.Common.{rules, ◌≡◌, ap, ◌∙◌, not, filter, ℤ}
+use Rattle.std.proofs.Common.{rules, ap, ◌∙◌, not, filter, ℤ}
 use Rattle.std.specs.Map.{values_of}
 use Rattle.std.proofs.lemmas.Map.Made.{filter_same_pairs}
 use Rattle.window_state.specs.States.{is_in}

@@ -1,5 +1,4 @@
 use Rattle.std.proofs.Common.{◌≡◌, ◌++◌}
-use Rattle.window_state.specs.RowLists.{IsKeyed}
 use Rattle.window_state.proofs.rows.Rows.copy.Given as goal
 
 abbrev pub invariant-loop-id : goal.invariant-loop-id

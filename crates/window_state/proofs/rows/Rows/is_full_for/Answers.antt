@@ -1,4 +1,4 @@
-use Rattle.std.proofs.Common.{◌≡◌, sym, ◌∙◌, ap, not, nat_eq}
+use Rattle.std.proofs.Common.{sym, ◌∙◌, ap, not, nat_eq}
 use Rattle.window_state.specs.Limits.{limit}
 use Rattle.window_state.proofs.RowLaws.{room-present, room-absent}
 use Rattle.window_state.proofs.rows.Rows.is_full_for.Goals as goal
