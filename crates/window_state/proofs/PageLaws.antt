@@ -7,7 +7,8 @@ use Rattle.std.specs.Ordering.{int_cmp}
 use Rattle.std.specs.BTreeMap.{insert_entry}
 use Rattle.std.specs.List.Sorted.{IsPartitionPoint, IsPartitionedBy}
 use Rattle.navigation_entry.specs.declared.navigation.Navigation.{Navigation}
-use Rattle.window_state.specs.PageLists.{IsRising, is_natural, is_pruned, lowered, place_of, shifted}
+use Rattle.window_state.specs.PageLists.{IsRising, is_natural, is_positive, is_pruned, lowered, place_of, prune, prune_front, shifted}
+use Rattle.window_state.specs.Changes.{put_page}
 
 -- an index in a place, against the bound and against a later one
 rising_from : (least : ℤ) (pages : List (ℤ × Navigation)) (j : ℕ) (d : ℤ × Navigation) → IsRising least pages → j < length pages → least ≤ℤ (get_or pages j d).0
@@ -148,6 +149,31 @@ prune-front count least (p ∷ ps) c h r = let bound = r.0 in by (prune-front co
         let natural : is_natural (p.0 -ℤ count) ≡ true = grind (arith, ints) in
         let later : int_lt (pos 0) p.0 ≡ true = grind (arith, ints) in
         rw (kept, natural, later) (ap (λ qs. shifted count p ∷ qs) rest)
+
+-- pages of a tab rise still after each change of them
+pub rising-put_page : (index : ℤ) (n : Navigation) (pages : List (ℤ × Navigation)) → IsRising (pos 0) pages → IsRising (pos 0) (put_page index n pages)
+rising-put_page index n pages r = by (is_natural index) refl
+  where
+    by : (b : Bool) → is_natural index ≡ b → IsRising (pos 0) (put_page index n pages)
+    by true e = rw e (rising-put (pos 0) index n pages (grind (arith, ints)) r)
+    by false e = rw e r
+
+pub rising-prune_front : (count : ℤ) (pages : List (ℤ × Navigation)) → IsRising (pos 0) pages → IsRising (pos 0) (prune_front count pages)
+rising-prune_front count pages r = by (is_positive count) refl
+  where
+    by : (b : Bool) → is_positive count ≡ b → IsRising (pos 0) (prune_front count pages)
+    by true e =
+        let positive : pos 0 <ℤ count = grind (arith, ints) in
+        rw (e, ← prune-front count (pos 0) pages positive (omega (arith, ints)) r) (rising-pruned (pos 0) count (pos 0) (pos 0) pages positive (omega (arith, ints)) (omega (arith, ints)) r)
+    by false e = rw e r
+
+pub rising-prune : (first count : ℤ) (pages : List (ℤ × Navigation)) → IsRising (pos 0) pages → IsRising (pos 0) (prune first count pages)
+rising-prune first count pages r = by (is_natural first) refl (is_positive count) refl
+  where
+    by : (a : Bool) → is_natural first ≡ a → (b : Bool) → is_positive count ≡ b → IsRising (pos 0) (prune first count pages)
+    by true f true c = rw (f, c) (rising-pruned first count (pos 0) (pos 0) pages (grind (arith, ints)) (grind (arith, ints)) (omega (arith, ints)) r)
+    by true f false c = rw (f, c) r
+    by false f b c = rw f r
 
 -- what a slice that was written leaves in its vector
 pub written_over : (f : ℤ × Navigation → ℤ × Navigation) (items written : List (ℤ × Navigation)) (len : ℕ) → len ≡ length items → written ≡ map f items → take len (written ++ drop (length written) items) ≡ map f items

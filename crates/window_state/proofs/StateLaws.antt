@@ -8,20 +8,15 @@ use Rattle.std.specs.declared.cmp.Ordering.TheVariants.{Equal}
 use Rattle.std.specs.Ordering.{int_cmp, int_eq}
 use Rattle.std.specs.List.{AllByRecursion}
 use Rattle.std.specs.Map.{values_of}
-use Rattle.std.specs.Cmp.Lexicographic.{pointwise}
-use Rattle.std.specs.Prelude.{nat_eq}
 use Rattle.window_state.specs.declared.tab.Tab.{Tab}
 use Rattle.window_state.specs.declared.window.Window.{Window}
-use Rattle.window_state.specs.declared.change.TabChange.{TabChange}
-use Rattle.window_state.specs.declared.change.TabChange.TheVariants as tab
-use Rattle.window_state.specs.declared.change.WindowChange.{WindowChange}
-use Rattle.window_state.specs.declared.change.WindowChange.TheVariants as window
 use Rattle.window_state.specs.Limits.{limit}
 use Rattle.window_state.specs.RowLists.{step_row, without_row, IsKeyed}
 use Rattle.window_state.specs.Keys.{tab_key, window_key}
-use Rattle.window_state.specs.Changes.{new_tab, new_window, changed_tab, changed_window, set_pair}
-use Rattle.window_state.specs.Fits.{FitsPair, TabFits, WindowFits, TabChangeFits, WindowChangeFits}
+use Rattle.window_state.specs.Changes.{new_tab, new_window}
+use Rattle.window_state.specs.Fits.{IsKeptTab, IsKeptWindow}
 use Rattle.window_state.specs.States.{State, IsKept, HasWindow, is_in, stands, with_tab, with_window, with_both, on_tab, on_window, placed, tab_closed, without_window}
+use Rattle.window_state.proofs.ChangeLaws.{kept-new_tab, kept-new_window, moved-tab}
 use Rattle.window_state.proofs.RowLaws.{all-step, all-without, length-without, stands-step, stands-made, stands-without}
 
 -- what holds of the new value and of the old one holds of what a call leaves
@@ -36,91 +31,18 @@ either_both P (Err e) x new old y new' old' first second err n o = rw (err.0, er
 pub itself : (x : ℤ) → int_cmp x x ≡ Equal
 itself x = let same : int_cmp x x ≡ Equal = grind (arith, ints) in same
 
-same_key : (a b : List ℕ) → pointwise nat_eq a b ≡ true → a ≡ b
-same_key [] [] e = refl
-same_key [] (y ∷ ys) e = absurd cc
-same_key (x ∷ xs) [] e = absurd cc
-same_key (x ∷ xs) (y ∷ ys) e = grind (arith, nat_tests, same_key xs ys)
-
--- pairs fit when one more does
-fits-set : (key value : List ℕ) (extra : List (List ℕ × List ℕ)) → FitsPair (key, value) → AllByRecursion FitsPair extra → AllByRecursion FitsPair (set_pair key value extra)
-fits-set key value [] fits all = (fits, tt)
-fits-set key value (e ∷ es) fits all = by (fits-set key value es fits all.1) (pointwise nat_eq key e.0) refl
-  where
-    by : AllByRecursion FitsPair (set_pair key value es) → (b : Bool) → pointwise nat_eq key e.0 ≡ b → AllByRecursion FitsPair (set_pair key value (e ∷ es))
-    by rest true is = rw is (subst (λ k. FitsPair (k, value)) (same_key key e.0 is) fits, all.1)
-    by rest false is = rw is (all.0, rest)
-
-pub tab_fits : (change : TabChange) (t : Tab) → TabChangeFits change → TabFits t → TabFits (changed_tab change t)
-tab_fits (tab.Index index) t c f = record { extension = f.extension; storage = f.storage; guid = f.guid; agent = f.agent; extra = f.extra }
-tab_fits (tab.Page index navigation) t c f = record { extension = f.extension; storage = f.storage; guid = f.guid; agent = f.agent; extra = f.extra }
-tab_fits (tab.Current index) t c f = record { extension = f.extension; storage = f.storage; guid = f.guid; agent = f.agent; extra = f.extra }
-tab_fits (tab.PruneBack index) t c f = record { extension = f.extension; storage = f.storage; guid = f.guid; agent = f.agent; extra = f.extra }
-tab_fits (tab.PruneFront count) t c f = record { extension = f.extension; storage = f.storage; guid = f.guid; agent = f.agent; extra = f.extra }
-tab_fits (tab.Prune index count) t c f = record { extension = f.extension; storage = f.storage; guid = f.guid; agent = f.agent; extra = f.extra }
-tab_fits (tab.Pinned pinned) t c f = record { extension = f.extension; storage = f.storage; guid = f.guid; agent = f.agent; extra = f.extra }
-tab_fits (tab.Extension text) t c f = record { extension = c; storage = f.storage; guid = f.guid; agent = f.agent; extra = f.extra }
-tab_fits (tab.Storage text) t c f = record { extension = f.extension; storage = c; guid = f.guid; agent = f.agent; extra = f.extra }
-tab_fits (tab.Guid text) t c f = record { extension = f.extension; storage = f.storage; guid = c; agent = f.agent; extra = f.extra }
-tab_fits (tab.Agent rest) t c f = record { extension = f.extension; storage = f.storage; guid = f.guid; agent = c; extra = f.extra }
-tab_fits (tab.Group group) t c f = record { extension = f.extension; storage = f.storage; guid = f.guid; agent = f.agent; extra = f.extra }
-tab_fits (tab.LastActive time) t c f = record { extension = f.extension; storage = f.storage; guid = f.guid; agent = f.agent; extra = f.extra }
-tab_fits (tab.ExtraValue key value) t c f = record { extension = f.extension; storage = f.storage; guid = f.guid; agent = f.agent; extra = fits-set key value t.info.extra c f.extra }
-
-pub window_stays : (change : TabChange) (t : Tab) → (changed_tab change t).window ≡ t.window
-window_stays (tab.Index index) t = refl
-window_stays (tab.Page index navigation) t = refl
-window_stays (tab.Current index) t = refl
-window_stays (tab.PruneBack index) t = refl
-window_stays (tab.PruneFront count) t = refl
-window_stays (tab.Prune index count) t = refl
-window_stays (tab.Pinned pinned) t = refl
-window_stays (tab.Extension text) t = refl
-window_stays (tab.Storage text) t = refl
-window_stays (tab.Guid text) t = refl
-window_stays (tab.Agent rest) t = refl
-window_stays (tab.Group group) t = refl
-window_stays (tab.LastActive time) t = refl
-window_stays (tab.ExtraValue key value) t = refl
-
-pub window_fits : (change : WindowChange) (w : Window) → WindowChangeFits change → WindowFits w → WindowFits (changed_window change w)
-window_fits (window.Selected index) w c f = record { app = f.app; workspace = f.workspace; title = f.title; extra = f.extra }
-window_fits (window.Kind kind) w c f = record { app = f.app; workspace = f.workspace; title = f.title; extra = f.extra }
-window_fits (window.Bounded bounds) w c f = record { app = f.app; workspace = f.workspace; title = f.title; extra = f.extra }
-window_fits (window.App text) w c f = record { app = c; workspace = f.workspace; title = f.title; extra = f.extra }
-window_fits (window.Workspace text) w c f = record { app = f.app; workspace = c; title = f.title; extra = f.extra }
-window_fits (window.AllWorkspaces all) w c f = record { app = f.app; workspace = f.workspace; title = f.title; extra = f.extra }
-window_fits (window.Title text) w c f = record { app = f.app; workspace = f.workspace; title = c; extra = f.extra }
-window_fits (window.ExtraValue key value) w c f = record { app = f.app; workspace = f.workspace; title = f.title; extra = fits-set key value w.info.extra c f.extra }
-
-pub window_key_stays : (change : WindowChange) (w : Window) → window_key (changed_window change w) ≡ window_key w
-window_key_stays (window.Selected index) w = refl
-window_key_stays (window.Kind kind) w = refl
-window_key_stays (window.Bounded bounds) w = refl
-window_key_stays (window.App text) w = refl
-window_key_stays (window.Workspace text) w = refl
-window_key_stays (window.AllWorkspaces all) w = refl
-window_key_stays (window.Title text) w = refl
-window_key_stays (window.ExtraValue key value) w = refl
-
-new_tab_fits : (id : ℤ) → TabFits (new_tab id)
-new_tab_fits id = record { extension = tt; storage = tt; guid = tt; agent = tt; extra = tt }
-
-new_window_fits : (id : ℤ) → WindowFits (new_window id)
-new_window_fits id = record { app = tt; workspace = tt; title = tt; extra = tt }
-
 within : (n : ℕ) → nat_le n limit ≡ true → n ≤ limit
 within n h = grind (arith, nat_tests)
 
 -- a tab is changed and stays in its window
-pub kept-tab : (id : ℤ) (change : Tab → Tab) (s : State) → ((t : Tab) → TabFits t → TabFits (change t)) → ((t : Tab) → (change t).window ≡ t.window)
+pub kept-tab : (id : ℤ) (change : Tab → Tab) (s : State) → ((t : Tab) → IsKeptTab t → IsKeptTab (change t)) → ((t : Tab) → (change t).window ≡ t.window)
     → nat_le (length (step_row int_cmp tab_key id (new_tab id) change s.tabs)) limit ≡ true → IsKept s → IsKept (with_tab id change s)
-kept-tab id change s fits stays room k = record {
+kept-tab id change s keeps stays room k = record {
   tabs = within (length (step_row int_cmp tab_key id (new_tab id) change s.tabs)) room;
   windows = k.windows;
   standing = all-step int_cmp tab_key (HasWindow s.windows) id (new_tab id) change s.tabs (has (new_tab id) tt) has k.standing;
-  tabs_fit = all-step int_cmp tab_key TabFits id (new_tab id) change s.tabs (fits (new_tab id) (new_tab_fits id)) fits k.tabs_fit;
-  windows_fit = k.windows_fit;
+  each_tab = all-step int_cmp tab_key IsKeptTab id (new_tab id) change s.tabs (keeps (new_tab id) (kept-new_tab id)) keeps k.each_tab;
+  each_window = k.each_window;
 }
   where
     has : (t : Tab) → HasWindow s.windows t → HasWindow s.windows (change t)
@@ -139,15 +61,15 @@ has-still old new still t h = by t.window h
     by (Some q) h = still q h
 
 -- a window is changed
-pub kept-window : (id : ℤ) (change : Window → Window) (s : State) → ((w : Window) → WindowFits w → WindowFits (change w)) → ((w : Window) → window_key (change w) ≡ window_key w)
+pub kept-window : (id : ℤ) (change : Window → Window) (s : State) → ((w : Window) → IsKeptWindow w → IsKeptWindow (change w)) → ((w : Window) → window_key (change w) ≡ window_key w)
     → nat_le (length (step_row int_cmp window_key id (new_window id) change s.windows)) limit ≡ true → IsKept s → IsKept (with_window id change s)
-kept-window id change s fits stays room k = record {
+kept-window id change s keeps stays room k = record {
   tabs = k.tabs;
   windows = within (length (step_row int_cmp window_key id (new_window id) change s.windows)) room;
   standing = weaker (HasWindow s.windows) (HasWindow (step_row int_cmp window_key id (new_window id) change s.windows))
       (has-still s.windows (step_row int_cmp window_key id (new_window id) change s.windows) (λ q found. stands-step int_cmp window_key int_cmp_total q id (new_window id) change s.windows stays found)) s.tabs k.standing;
-  tabs_fit = k.tabs_fit;
-  windows_fit = all-step int_cmp window_key WindowFits id (new_window id) change s.windows (fits (new_window id) (new_window_fits id)) fits k.windows_fit;
+  each_tab = k.each_tab;
+  each_window = all-step int_cmp window_key IsKeptWindow id (new_window id) change s.windows (keeps (new_window id) (kept-new_window id)) keeps k.each_window;
 }
 
 -- a tab is put into a window
@@ -160,12 +82,12 @@ kept-both window tab s room_window room_tab k =
       tabs = within (length (step_row int_cmp tab_key tab (new_tab tab) (λ t. record t { window = Some window }) s.tabs)) room_tab;
       windows = made.windows;
       standing = all-step int_cmp tab_key (HasWindow (step_row int_cmp window_key window (new_window window) (λ w. w) s.windows)) tab (new_tab tab) (λ t. record t { window = Some window }) s.tabs here (λ t h. here) made.standing;
-      tabs_fit = all-step int_cmp tab_key TabFits tab (new_tab tab) (λ t. record t { window = Some window }) s.tabs (placed_fits (new_tab tab) (new_tab_fits tab)) placed_fits k.tabs_fit;
-      windows_fit = made.windows_fit;
+      each_tab = all-step int_cmp tab_key IsKeptTab tab (new_tab tab) (λ t. record t { window = Some window }) s.tabs (moved (new_tab tab) (kept-new_tab tab)) moved k.each_tab;
+      each_window = made.each_window;
     }
   where
-    placed_fits : (t : Tab) → TabFits t → TabFits (record t { window = Some window })
-    placed_fits t f = record { extension = f.extension; storage = f.storage; guid = f.guid; agent = f.agent; extra = f.extra }
+    moved : (t : Tab) → IsKeptTab t → IsKeptTab (record t { window = Some window })
+    moved t kept = moved-tab t (Some window) t.index t.current t.pages kept.rising kept
 
 pub kept-tab_closed : (id : ℤ) (s : State) → IsKept s → IsKept (tab_closed id s)
 kept-tab_closed id s k =
@@ -175,8 +97,8 @@ kept-tab_closed id s k =
       tabs = omega arith;
       windows = k.windows;
       standing = all-without int_cmp tab_key (HasWindow s.windows) id s.tabs k.standing;
-      tabs_fit = all-without int_cmp tab_key TabFits id s.tabs k.tabs_fit;
-      windows_fit = k.windows_fit;
+      each_tab = all-without int_cmp tab_key IsKeptTab id s.tabs k.each_tab;
+      each_window = k.each_window;
     }
 
 -- the tabs that stay when a window goes
@@ -214,8 +136,8 @@ kept-without_window id s k =
       tabs = omega arith;
       windows = omega arith;
       standing = standing-filter id s.windows s.tabs k.standing;
-      tabs_fit = all-filter TabFits (λ t. not (is_in id t.window)) s.tabs k.tabs_fit;
-      windows_fit = all-without int_cmp window_key WindowFits id s.windows k.windows_fit;
+      each_tab = all-filter IsKeptTab (λ t. not (is_in id t.window)) s.tabs k.each_tab;
+      each_window = all-without int_cmp window_key IsKeptWindow id s.windows k.each_window;
     }
 
 -- at the limit nothing changes, and below it the change is made

@@ -1,7 +1,11 @@
--- Which texts of a tab or a window the payloads of their commands can hold.
-use Rattle.std.specs.Prelude.{◌≡◌, ℕ, ◌+◌, ◌%◌, ◌≤◌, List, length, IfSome}
-use Rattle.std.specs.List.{AllByRecursion}
+-- What every tab and every window keep: the payloads of their commands can hold their texts, a tab's pages stand by
+-- rising index, and no extra key stands twice. And which changes keep that.
+use Rattle.std.specs.Prelude.{◌≡◌, ℕ, ◌+◌, ◌%◌, ◌≤◌, pos, List, length, nat_eq, IfSome}
+use Rattle.std.specs.List.{AllByRecursion, IsDistinct}
+use Rattle.std.specs.Map.{keys_of}
+use Rattle.std.specs.Cmp.Lexicographic.{pointwise}
 use Rattle.pickle_cells.specs.Cell.{string_size}
+use Rattle.window_state.specs.PageLists.{IsRising}
 use Rattle.window_state.specs.declared.tab.Tab.{Tab}
 use Rattle.window_state.specs.declared.window.Window.{Window}
 use Rattle.window_state.specs.declared.change.TabChange.{TabChange}
@@ -21,18 +25,25 @@ FitsRest rest = (length rest % 4 ≡ 0) × (8 + length rest ≤ 65534)
 abbrev pub FitsPair : List ℕ × List ℕ → Type 0
 FitsPair pair = 8 + string_size (length pair.0) + string_size (length pair.1) ≤ 65534
 
-pub record TabFits (t : Tab) : Type 0 where
+-- no key of the pairs stands twice
+abbrev pub HasDistinctKeys : List (List ℕ × List ℕ) → Type 0
+HasDistinctKeys pairs = IsDistinct (pointwise nat_eq) (keys_of pairs)
+
+pub record IsKeptTab (t : Tab) : Type 0 where
   pub extension : IfSome t.info.extension FitsText
   pub storage : IfSome t.info.storage FitsText
   pub guid : IfSome t.info.guid FitsText
   pub agent : IfSome t.info.agent FitsRest
   pub extra : AllByRecursion FitsPair t.info.extra
+  pub distinct : HasDistinctKeys t.info.extra
+  pub rising : IsRising (pos 0) t.pages
 
-pub record WindowFits (w : Window) : Type 0 where
+pub record IsKeptWindow (w : Window) : Type 0 where
   pub app : IfSome w.info.app FitsText
   pub workspace : IfSome w.info.workspace FitsText
   pub title : IfSome w.info.title FitsText
   pub extra : AllByRecursion FitsPair w.info.extra
+  pub distinct : HasDistinctKeys w.info.extra
 
 abbrev pub TabChangeFits : TabChange → Type 0
 TabChangeFits (tab.Extension text) = FitsText text

@@ -1,7 +1,8 @@
 -- The state of a session: tabs and windows by rising id, groups by rising token, and the active window. A change
 -- first makes the tab or the window that it names; where that would be one too many, nothing changes.
-use Rattle.std.specs.Prelude.{◌≤◌, nat_le, ℤ, Bool, false, not, ◌&&◌, List, [], length, filter, Option, Some, None, is_some, IfSome, IsTrue, if◌then◌else◌}
+use Rattle.std.specs.Prelude.{◌≤◌, nat_le, ℤ, Bool, false, not, ◌&&◌, List, [], length, map, filter, Option, Some, None, is_some, IfSome, IsTrue, if◌then◌else◌}
 use Rattle.std.specs.List.{AllByRecursion}
+use Rattle.std.specs.List.Sorted.{IsStrictlySortedBy}
 use Rattle.std.specs.Ordering.{int_cmp, int_eq}
 use Rattle.navigation_entry.specs.declared.group.GroupInfo.{GroupInfo}
 use Rattle.window_state.specs.declared.tab.Tab.{Tab}
@@ -9,7 +10,7 @@ use Rattle.window_state.specs.declared.window.Window.{Window}
 use Rattle.window_state.specs.RowLists.{find_row, put_row, step_row, without_row}
 use Rattle.window_state.specs.Keys.{tab_key, window_key, group_key, group_cmp}
 use Rattle.window_state.specs.Changes.{new_tab, new_window}
-use Rattle.window_state.specs.Fits.{TabFits, WindowFits}
+use Rattle.window_state.specs.Fits.{IsKeptTab, IsKeptWindow}
 use Rattle.window_state.specs.Limits.{limit}
 
 pub record State : Type 0 where
@@ -77,10 +78,21 @@ window_closed id s = if stands id s.windows then without_window id s else s
 abbrev pub HasWindow : List Window → Tab → Type 0
 HasWindow windows tab = IfSome tab.window (λ id. IsTrue (stands id windows))
 
--- what every state keeps
+-- no more tabs and windows than there may be, tabs whose windows stand, and what each tab and each window keep
 pub record IsKept (s : State) : Type 0 where
   pub tabs : length s.tabs ≤ limit
   pub windows : length s.windows ≤ limit
   pub standing : AllByRecursion (HasWindow s.windows) s.tabs
-  pub tabs_fit : AllByRecursion TabFits s.tabs
-  pub windows_fit : AllByRecursion WindowFits s.windows
+  pub each_tab : AllByRecursion IsKeptTab s.tabs
+  pub each_window : AllByRecursion IsKeptWindow s.windows
+
+-- rows by rising key, so that no key stands twice
+pub record IsOrdered (s : State) : Type 0 where
+  pub tabs : IsStrictlySortedBy int_cmp (map tab_key s.tabs)
+  pub windows : IsStrictlySortedBy int_cmp (map window_key s.windows)
+  pub groups : IsStrictlySortedBy group_cmp (map group_key s.groups)
+
+-- what every state keeps
+pub record IsState (s : State) : Type 0 where
+  pub kept : IsKept s
+  pub ordered : IsOrdered s

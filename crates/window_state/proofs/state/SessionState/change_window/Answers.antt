@@ -5,7 +5,8 @@ use Rattle.window_state.specs.RowLists.{step_row}
 use Rattle.window_state.specs.Keys.{window_key}
 use Rattle.window_state.specs.Changes.{new_window, changed_window}
 use Rattle.window_state.specs.States.{State, IsKept, on_window}
-use Rattle.window_state.proofs.StateLaws.{either, kept-window, window_fits, window_key_stays, full-window}
+use Rattle.window_state.proofs.StateLaws.{either, kept-window, full-window}
+use Rattle.window_state.proofs.ChangeLaws.{kept-changed_window, window_key_stays}
 use Rattle.window_state.proofs.state.SessionState.change_window.Goals as goal
 
 pub returns-then-is_full_for-clause-ok : goal.returns-then-is_full_for-clause-ok
@@ -22,4 +23,4 @@ invariant_of-self c =
     let ok = simp to_z-of_z at c.step.ensures.ok in
     let s : State = record { tabs = c.self.inside.tabs; windows = c.self.inside.windows; groups = c.self.inside.groups; active = c.self.inside.active } in
     either (λ windows. IsKept (record s { windows = windows })) c.step.result c.step.new.self (step_row int_cmp window_key c.args.id (new_window c.args.id) (changed_window c.args.change) s.windows) s.windows ok c.step.ensures.err
-    (kept-window c.args.id (changed_window c.args.change) s (λ w. window_fits c.args.change w c.requires) (window_key_stays c.args.change) (room ∙ ap not c.if-is_full_for.false) c.self.invariant) c.self.invariant
+    (kept-window c.args.id (changed_window c.args.change) s (λ w. kept-changed_window c.args.change w c.requires) (window_key_stays c.args.change) (room ∙ ap not c.if-is_full_for.false) c.self.invariant) c.self.invariant
