@@ -8,9 +8,9 @@ use std::alloc::AllocError;
 use window_state::{GroupId, SessionState, TabChange, WindowChange};
 
 /// The state after a command, by the table in docs/FORMAT.md. It copies what the command brings and nothing that the
-/// state holds: a step takes time in the logarithm of the number of tabs, windows or groups, and in the pages of its
-/// tab where it puts one in before others or prunes; closing a window looks at every tab. After want of memory the
-/// state is as it was.
+/// state holds: a step takes time in the logarithm of the number of tabs, windows or groups, for a closed window so
+/// much for each tab that goes with it, and in the pages of its tab where it puts one in before others or prunes.
+/// After want of memory the state is as it was.
 #[tactic(auto, using(crate::proofs::FitLaws::fits_extension, crate::proofs::FitLaws::fits_storage, crate::proofs::FitLaws::fits_guid, crate::proofs::FitLaws::fits_agent, crate::proofs::FitLaws::fits_tab_extra, crate::proofs::FitLaws::fits_app, crate::proofs::FitLaws::fits_workspace, crate::proofs::FitLaws::fits_title, crate::proofs::FitLaws::fits_window_extra))]
 pub fn apply(state: &mut SessionState, command: &SessionCommand) -> Result<(), AllocError>
     requires { IsSound command.now }

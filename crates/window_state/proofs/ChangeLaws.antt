@@ -8,7 +8,7 @@ use Rattle.window_state.specs.declared.change.TabChange.TheVariants as tab
 use Rattle.window_state.specs.declared.change.WindowChange.{WindowChange}
 use Rattle.window_state.specs.declared.change.WindowChange.TheVariants as window
 use Rattle.window_state.specs.PageLists.{IsRising, prune, prune_back, prune_front}
-use Rattle.window_state.specs.Keys.{window_key}
+use Rattle.window_state.specs.Keys.{tab_key, window_key}
 use Rattle.window_state.specs.Changes.{new_tab, new_window, changed_tab, changed_window, current_front, current_pruned, put_page}
 use Rattle.window_state.specs.Fits.{IsKeptTab, IsKeptWindow, TabChangeFits, WindowChangeFits}
 use Rattle.window_state.proofs.ExtraLaws.{fits-set, distinct-set, distinct-none}
@@ -35,21 +35,22 @@ kept-changed_tab (tab.Group group) t c k = record { extension = k.extension; sto
 kept-changed_tab (tab.LastActive time) t c k = record { extension = k.extension; storage = k.storage; guid = k.guid; agent = k.agent; extra = k.extra; distinct = k.distinct; rising = k.rising }
 kept-changed_tab (tab.ExtraValue key value) t c k = record { extension = k.extension; storage = k.storage; guid = k.guid; agent = k.agent; extra = fits-set key value t.info.extra c k.extra; distinct = distinct-set key value t.info.extra k.distinct; rising = k.rising }
 
-pub window_stays : (change : TabChange) (t : Tab) → (changed_tab change t).window ≡ t.window
-window_stays (tab.Index index) t = refl
-window_stays (tab.Page index navigation) t = refl
-window_stays (tab.Current index) t = refl
-window_stays (tab.PruneBack index) t = refl
-window_stays (tab.PruneFront count) t = refl
-window_stays (tab.Prune index count) t = refl
-window_stays (tab.Pinned pinned) t = refl
-window_stays (tab.Extension text) t = refl
-window_stays (tab.Storage text) t = refl
-window_stays (tab.Guid text) t = refl
-window_stays (tab.Agent rest) t = refl
-window_stays (tab.Group group) t = refl
-window_stays (tab.LastActive time) t = refl
-window_stays (tab.ExtraValue key value) t = refl
+-- a change leaves the key, and a tab's window
+pub tab_stays : (change : TabChange) (t : Tab) → (tab_key (changed_tab change t) ≡ tab_key t) × ((changed_tab change t).window ≡ t.window)
+tab_stays (tab.Index index) t = (refl, refl)
+tab_stays (tab.Page index navigation) t = (refl, refl)
+tab_stays (tab.Current index) t = (refl, refl)
+tab_stays (tab.PruneBack index) t = (refl, refl)
+tab_stays (tab.PruneFront count) t = (refl, refl)
+tab_stays (tab.Prune index count) t = (refl, refl)
+tab_stays (tab.Pinned pinned) t = (refl, refl)
+tab_stays (tab.Extension text) t = (refl, refl)
+tab_stays (tab.Storage text) t = (refl, refl)
+tab_stays (tab.Guid text) t = (refl, refl)
+tab_stays (tab.Agent rest) t = (refl, refl)
+tab_stays (tab.Group group) t = (refl, refl)
+tab_stays (tab.LastActive time) t = (refl, refl)
+tab_stays (tab.ExtraValue key value) t = (refl, refl)
 
 pub kept-changed_window : (change : WindowChange) (w : Window) → WindowChangeFits change → IsKeptWindow w → IsKeptWindow (changed_window change w)
 kept-changed_window (window.Selected index) w c k = record { app = k.app; workspace = k.workspace; title = k.title; extra = k.extra; distinct = k.distinct }

@@ -1,5 +1,5 @@
 -- What every state keeps, after each change.
-use Rattle.std.proofs.Common.{◌≡◌, ◌≢◌, ℕ, ◌≤◌, nat_le, ℤ, Bool, true, false, not, cond, ◌&&◌, List, [], ◌∷◌, filter, length, Option, Some, None, Result, Ok, Err, OnOk, OnErr, IfSome, if◌then◌else◌, refl, sym, ap, subst, ◌∙◌, true≢false, arith}
+use Rattle.std.proofs.Common.{◌≡◌, ◌≢◌, ℕ, ◌≤◌, nat_le, ℤ, Bool, true, false, not, cond, ◌&&◌, List, [], ◌∷◌, filter, length, Option, Some, None, Result, Ok, Err, OnOk, OnErr, IfSome, if◌then◌else◌, refl, sym, subst, ◌∙◌, true≢false, arith}
 use Rattle.std.proofs.lemmas.Int.{ints}
 use Rattle.std.proofs.lemmas.Bool.Decides.{nat_tests}
 use Rattle.std.proofs.lemmas.Map.Lookups.{exact_signed}
@@ -7,11 +7,10 @@ use Rattle.std.specs.Cmp.{int_cmp_total}
 use Rattle.std.specs.declared.cmp.Ordering.TheVariants.{Equal}
 use Rattle.std.specs.Ordering.{int_cmp, int_eq}
 use Rattle.std.specs.List.{AllByRecursion}
-use Rattle.std.specs.Map.{values_of}
 use Rattle.window_state.specs.declared.tab.Tab.{Tab}
 use Rattle.window_state.specs.declared.window.Window.{Window}
 use Rattle.window_state.specs.Limits.{limit}
-use Rattle.window_state.specs.RowLists.{step_row, without_row, IsKeyed}
+use Rattle.window_state.specs.RowLists.{step_row, without_row}
 use Rattle.window_state.specs.Keys.{tab_key, window_key}
 use Rattle.window_state.specs.Changes.{new_tab, new_window}
 use Rattle.window_state.specs.Fits.{IsKeptTab, IsKeptWindow}
@@ -23,10 +22,6 @@ use Rattle.window_state.proofs.RowLaws.{all-step, all-without, length-without, s
 pub either : {T E X : Type 0} (P : X → Type 0) (r : Result T E) (left new old : X) → OnOk r (left ≡ new) → OnErr r (left ≡ old) → P new → P old → P left
 either P (Ok v) left new old ok err n o = subst P (sym ok) n
 either P (Err e) left new old ok err n o = subst P (sym err) o
-
-pub either_both : {T E X Y : Type 0} (P : X → Y → Type 0) (r : Result T E) (x new old : X) (y new' old' : Y) → OnOk r (x ≡ new) → OnOk r (y ≡ new') → OnErr r ((x ≡ old) × (y ≡ old')) → P new new' → P old old' → P x y
-either_both P (Ok v) x new old y new' old' first second err n o = rw (first, second) n
-either_both P (Err e) x new old y new' old' first second err n o = rw (err.0, err.1) o
 
 pub itself : (x : ℤ) → int_cmp x x ≡ Equal
 itself x = let same : int_cmp x x ≡ Equal = grind (arith, ints) in same
@@ -165,13 +160,3 @@ full-placed_tab window tab s full = rw full refl
 pub room-placed : (window tab : ℤ) (s : State) → nat_le (length (step_row int_cmp window_key window (new_window window) (λ w. w) s.windows)) limit ≡ true
     → nat_le (length (step_row int_cmp tab_key tab (new_tab tab) (λ t. record t { window = Some window }) s.tabs)) limit ≡ true → with_both window tab s ≡ placed window tab s
 room-placed window tab s room_window room_tab = rw (room_window, room_tab) refl
-
--- the rows that stay when a window's tabs go
-pub kept-values : (p : Tab → Bool) (es : List (ℤ × Tab)) → values_of (filter (λ e. p e.1) es) ≡ filter p (values_of es)
-kept-values p [] = refl
-kept-values p (e ∷ es) =
-    let rest = kept-values p es in
-    elim (p e.1) as (λ b. values_of (cond b (e ∷ filter (λ e. p e.1) es) (filter (λ e. p e.1) es)) ≡ cond b (e.1 ∷ filter p (values_of es)) (filter p (values_of es))) [ true ↦ ap (λ ts. e.1 ∷ ts) rest | false ↦ rest ]
-
-pub kept-keyed : (p : ℤ × Tab → Bool) (es : List (ℤ × Tab)) → IsKeyed tab_key es → IsKeyed tab_key (filter p es)
-kept-keyed p es keyed = all-filter (λ e. e.0 ≡ tab_key e.1) p es keyed

@@ -7,5 +7,6 @@ pub mod KeyLaws
 pub mod Changes
 pub mod Fits
 pub mod States
+pub mod Members
 pub mod Views
 pub use Rattle.pickle_cells.specs.Cell

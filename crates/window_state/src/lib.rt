@@ -8,6 +8,7 @@ mod extra;
 mod group_id;
 mod group_rows;
 mod items;
+mod members;
 mod page_vec;
 mod pages;
 mod rows;

@@ -1,13 +1,11 @@
 //! An ordered map of rows, each of which says its own key, seen as the list of the rows by rising key.
-ghost use Rattle.std.specs.Prelude.{◌≡◌, ◌≤◌, nat_le, [], length, map, filter, not, is_some, true, IfOk, OnOk, OnErr};
+ghost use Rattle.std.specs.Prelude.{◌≡◌, ◌≤◌, nat_le, [], length, map, not, is_some, true, IfOk, OnOk, OnErr};
 ghost use Rattle.std.specs.Option.{option_copied};
 ghost use Rattle.std.specs.List.Sorted.{IsStrictlySortedBy};
 ghost use Rattle.std.specs.declared.cmp.Ordering.TheVariants.{Equal};
 ghost use Rattle.window_state.specs.Limits.{limit};
-ghost use Rattle.window_state.specs.States.{is_in};
 ghost use Rattle.window_state.specs.RowLists.{find_row, put_row, step_row, without_row};
 
-use crate::tab::Tab;
 use std::alloc::{AllocError, Global};
 use std::collections::BTreeMap;
 use std::marker::Model;
@@ -166,23 +164,5 @@ impl<R: Changing> Rows<R> {
                 Ok(())
             }
         }
-    }
-}
-
-impl Rows<Tab> {
-    /// The tabs of a window go. It looks at every tab.
-    pub(crate) fn leave(&mut self, window: i32)
-        ensures { self.new ≡ filter (λ tab. not (is_in window tab.window)) self.old }
-    {
-        self.rows.retain(|_, tab| !is_in(window, tab));
-    }
-}
-
-fn is_in(window: i32, tab: &Tab) -> bool
-    ensures { result ≡ is_in window tab.now.window }
-{
-    match tab.window {
-        Some(own) => own == window,
-        None => false,
     }
 }

@@ -1,11 +1,14 @@
 //! The state of a session.
-ghost use Rattle.std.specs.Prelude.{◌≡◌, ℤ, Some, IfOk, OnOk, OnErr};
+ghost use Rattle.std.specs.Prelude.{◌≡◌, ℤ, Some, not, filter, IfOk, OnOk, OnErr};
 ghost use Rattle.std.specs.Ordering.{int_cmp};
 ghost use Rattle.window_state.specs.RowLists.{step_row};
 ghost use Rattle.window_state.specs.Keys.{tab_key, window_key};
 ghost use Rattle.window_state.specs.Changes.{new_tab, new_window};
+ghost use Rattle.window_state.specs.States.{is_in};
+ghost use Rattle.window_state.specs.Members.{window_of, AreMembers};
 
 use crate::change::{TabChange, TabStep, WindowChange};
+use crate::members::Members;
 use crate::rows::Rows;
 use crate::tab::Tab;
 use crate::window::Window;
@@ -15,23 +18,29 @@ use std::marker::Model;
 
 /// Tabs and windows by rising id, groups of tabs by rising token, and the active window, which need not stand. At
 /// most 1,048,576 tabs and as many windows; a tab's window stands, and every text fits the payload of its command.
+///
+/// A change of one tab, window or group takes time in the logarithm of their numbers, beside what `Pages` says of a
+/// change of pages. A window that is closed takes so much for itself and for each tab that goes with it, and no
+/// memory: which tabs stand in which window is held beside them. A copy takes time and memory for all that it holds.
 #[derive(Drop)]
 pub struct SessionState {
     tabs: Rows<Tab>,
     windows: Rows<Window>,
     groups: Rows<GroupInfo>,
     active: Option<i32>,
+    members: Members,
     alloc: Global,
 }
 
 impl Model for SessionState {
-    ghost use Rattle.window_state.specs.States.{State, IsKept};
+    ghost use Rattle.window_state.specs.States.{State};
+    ghost use Rattle.window_state.specs.Members.{IsHeld};
 
     ghost Value = { State };
 
     ghost view = { λ s. record { tabs = s.tabs; windows = s.windows; groups = s.groups; active = s.active } };
 
-    ghost invariant = { λ s. IsKept (record { tabs = s.tabs; windows = s.windows; groups = s.groups; active = s.active }) };
+    ghost invariant = { λ s. IsHeld s.members (record { tabs = s.tabs; windows = s.windows; groups = s.groups; active = s.active }) };
 }
 
 impl SessionState {
@@ -48,6 +57,7 @@ impl SessionState {
             windows: Rows::new(alloc),
             groups: Rows::new(alloc),
             active: None,
+            members: Members::new(alloc),
             alloc,
         })
     }
@@ -95,6 +105,8 @@ impl SessionState {
         if self.tabs.is_full_for(id) {
             return Ok(());
         }
+        // The length says that the tabs are in order.
+        let _len = self.tabs.len();
         self.tabs.step(self.alloc, id, TabStep::Changed(change))
     }
 
@@ -128,6 +140,10 @@ impl SessionState {
     pub fn close_tab(&mut self, id: i32)
         ensures { self.new ≡ tab_closed id self.old }
     {
+        let own = window_of(&self.tabs, id);
+        self.members.leave(id, own, None);
+        // The length says that the tabs are in order.
+        let _len = self.tabs.len();
         self.tabs.remove(id);
     }
 
@@ -143,7 +159,20 @@ impl SessionState {
         if self.tabs.is_full_for(tab) {
             return Ok(());
         }
-        place(&mut self.windows, &mut self.tabs, self.alloc, window, tab)
+        // The length says that the tabs are in order.
+        let _len = self.tabs.len();
+        let own = window_of(&self.tabs, tab);
+        self.members.insert(window, tab)?;
+        match place(&mut self.windows, &mut self.tabs, self.alloc, window, tab) {
+            Ok(()) => {
+                self.members.leave(tab, own, Some(window));
+                Ok(())
+            }
+            Err(error) => {
+                self.members.leave(tab, Some(window), own);
+                Err(error)
+            }
+        }
     }
 
     /// The window and its tabs go, where it stands.
@@ -152,7 +181,7 @@ impl SessionState {
     {
         if self.windows.has(id) {
             self.windows.remove(id);
-            self.tabs.leave(id);
+            close_tabs(&mut self.members, &mut self.tabs, id);
         }
     }
 
@@ -163,13 +192,38 @@ impl SessionState {
         let tabs = self.tabs.copy(self.alloc)?;
         let windows = self.windows.copy(self.alloc)?;
         let groups = self.groups.copy(self.alloc)?;
+        let members = self.members.copy()?;
         Ok(SessionState {
             tabs,
             windows,
             groups,
             active: self.active,
+            members,
             alloc: self.alloc,
         })
+    }
+}
+
+fn window_of(tabs: &Rows<Tab>, id: i32) -> Option<i32>
+    ensures { result ≡ window_of id tabs.now }
+{
+    match tabs.get(id) {
+        Some(tab) => tab.window,
+        None => None,
+    }
+}
+
+// The tabs of a window go, and their pairs with it.
+fn close_tabs(members: &mut Members, tabs: &mut Rows<Tab>, window: i32)
+    requires { AreMembers members.old tabs.old }
+    ensures members { AreMembers members.new tabs.new }
+    ensures tabs { tabs.new ≡ filter (λ tab. not (is_in window tab.window)) tabs.old }
+{
+    // The length says that the tabs are in order.
+    let _len = tabs.len();
+    while let Some(tab) = members.take(window) {
+        tabs.remove(tab);
+        let _len = tabs.len();
     }
 }
 

@@ -77,22 +77,25 @@ fn a_key_that_is_set_again_keeps_its_place(rt: HostRuntime) -> Result<(), Fail> 
 }
 
 #[test]
-fn a_closed_window_takes_its_tabs_along(rt: HostRuntime) -> Result<(), Fail> {
+fn a_closed_window_takes_along_the_tabs_that_stand_in_it(rt: HostRuntime) -> Result<(), Fail> {
     let mut state = SessionState::start(rt.alloc())?;
     state.place_tab(1, 2)?;
     state.place_tab(1, -3)?;
     state.place_tab(4, 5)?;
+    state.place_tab(4, 2)?;
+    state.place_tab(4, -3)?;
+    state.place_tab(1, -3)?;
     state.change_tab(6, TabChange::Pinned(true))?;
     state.change_window(4, WindowChange::Kind(7))?;
     state.set_active(1);
     state.close_window(1);
     state.close_tab(9);
     let copy = state.copy()?;
-    assert_eq!(rt; copy.tabs().len(), 2);
+    assert_eq!(rt; copy.tabs().len(), 3);
     assert_eq!(rt; copy.windows().len(), 1);
     assert_eq!(rt; copy.groups().len(), 0);
     assert_eq!(rt; copy.active(), Some(1));
-    let tab = copy.tabs().get(5).ok_or("no tab")?;
+    let tab = copy.tabs().get(2).ok_or("no tab")?;
     assert_eq!(rt; tab.window, Some(4));
     let tab = copy.tabs().get(6).ok_or("no tab")?;
     assert_eq!(rt; (tab.window, tab.index, tab.current), (None, -1, -1));

@@ -22,5 +22,8 @@ invariant_of-self c =
     let room = simp to_z-of_z at (c.is_full_for.ensures (new_window c.args.id) (changed_window c.args.change)) in
     let ok = simp to_z-of_z at c.step.ensures.ok in
     let s : State = record { tabs = c.self.inside.tabs; windows = c.self.inside.windows; groups = c.self.inside.groups; active = c.self.inside.active } in
-    either (λ windows. IsKept (record s { windows = windows })) c.step.result c.step.new.self (step_row int_cmp window_key c.args.id (new_window c.args.id) (changed_window c.args.change) s.windows) s.windows ok c.step.ensures.err
-    (kept-window c.args.id (changed_window c.args.change) s (λ w. kept-changed_window c.args.change w c.requires) (window_key_stays c.args.change) (room ∙ ap not c.if-is_full_for.false) c.self.invariant) c.self.invariant
+    record {
+      kept = either (λ windows. IsKept (record s { windows = windows })) c.step.result c.step.new.self (step_row int_cmp window_key c.args.id (new_window c.args.id) (changed_window c.args.change) s.windows) s.windows ok c.step.ensures.err
+          (kept-window c.args.id (changed_window c.args.change) s (λ w. kept-changed_window c.args.change w c.requires) (window_key_stays c.args.change) (room ∙ ap not c.if-is_full_for.false) c.self.invariant.kept) c.self.invariant.kept;
+      members = c.self.invariant.members;
+    }

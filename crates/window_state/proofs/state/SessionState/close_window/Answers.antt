@@ -8,6 +8,6 @@ pub invariant_of-self : goal.invariant_of-self
 invariant_of-self c =
     let f : FitsSigned w32 c.args.id = c.ranges.id in
     let gone = simp to_z-of_z at c.remove.ensures in
-    let left = simp to_z-of_z at c.leave.ensures in
+    let left = simp to_z-of_z at c.close_tabs.ensures.tabs in
     let s : State = record { tabs = c.self.inside.tabs; windows = c.self.inside.windows; groups = c.self.inside.groups; active = c.self.inside.active } in
-    rw (gone, left) (kept-without_window c.args.id s c.self.invariant)
+    record { kept = rw (gone, left) (kept-without_window c.args.id s c.self.invariant.kept); members = c.close_tabs.ensures.members }
