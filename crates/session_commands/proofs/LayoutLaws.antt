@@ -1,13 +1,18 @@
 -- Layouts of both sorts, over any table: a payload has one layout of a shape, one that has no fault is laid out, and
 -- what is written for a layout is laid out so.
-use Rattle.std.proofs.Common.{◌≡◌, ℕ, suc, ◌<◌, ◌≤◌, ◌^◌, Bool, true, eqb, List, [], ◌∷◌, length, map, get_or, Some, None, Result, Ok, Err, refl, ap, ◌∙◌, inl, inr, arith}
+use Rattle.std.proofs.Common.{◌≡◌, ℕ, suc, ◌<◌, ◌≤◌, ◌^◌, Bool, true, eqb, List, [], ◌∷◌, length, map, drop, get_or, Some, None, Result, Ok, Err, refl, sym, ap, subst, ◌∙◌, inl, inr, arith}
 use Rattle.std.specs.Prelude.{option_map, nat_le}
 use Rattle.std.specs.List.{AllByRecursion}
 use Rattle.std.proofs.lemmas.Bool.{eq-eqb, eqb-true, cases_Bool, leb-true}
+use Rattle.std.proofs.lemmas.List.{drop_at}
 use Rattle.pickle_cells.specs.declared.fault.PickleFault.{PickleFault}
 use Rattle.pickle_cells.specs.Layout.{fields_bytes}
-use Rattle.pickle_cells.specs.PickleLayout.{Item, Int, Int64, Uint32, Uint64, Flag, Text, Units, ItemKind, pickled_at, pickled_bytes, item_size, items_size, FitsItem, fault_of as pickle_fault_of}
-use Rattle.pickle_cells.proofs.PickleLaws.{pickled_found, pickled_only, one_reading, pickled_bytes-is, length-pickled}
+use Rattle.pickle_cells.specs.Cell.{uint32, IsPickle}
+use Rattle.pickle_cells.specs.CellReading.{Unread}
+use Rattle.pickle_cells.specs.PickleLayout.{Item, Int, Int64, Uint32, Uint64, Flag, Text, Units, ItemKind, kind_of, AreItems, IsPickled, items_at, pickled_at, pickled_bytes, item_size, items_size, FitsItem, fault_of as pickle_fault_of}
+use Rattle.pickle_cells.proofs.CellLaws.{ok_is}
+use Rattle.pickle_cells.proofs.ItemLaws.{length-uint32}
+use Rattle.pickle_cells.proofs.PickleLaws.{items_only, pickled_found, pickled_only, pickled_bytes-is, length-pickled}
 use Rattle.session_commands.specs.FixedReading.{field_kind, width, fields_at}
 use Rattle.session_commands.specs.PayloadLayout.{Layout, Fixed, Pickled, IsLaidOut, layout_bytes, Shape, FixedShape, PickledShape, shape, FitsLayout, IsInType, IsWhole}
 use Rattle.session_commands.specs.Faults.{shape_fault, length_fault}
@@ -20,15 +25,27 @@ unfolding IsLaidOut
 accepted (Fixed fields) payload short is = rw (eq-eqb (length payload) (width (map field_kind fields)) (length-fields fields payload is)) refl
 accepted (Pickled items tail) payload short is = rw (pickled_only items tail payload (omega arith) is) refl
 
+-- a payload of any length is the pickle of one body
+one_body : (body other payload : List ℕ) → IsPickle body payload → IsPickle other payload → body ≡ other
+one_body body other payload p q =
+    sym (drop_at (uint32 (length body)) body 4 (length-uint32 (length body))) ∙ ap (drop 4) (sym p.1 ∙ q.1) ∙ drop_at (uint32 (length other)) other 4 (length-uint32 (length other))
+
+one_pickle : (items others : List Item) (tail rest payload : List ℕ) → map kind_of items ≡ map kind_of others → IsPickled items tail payload → IsPickled others rest payload → Pickled items tail ≡ Pickled others rest
+one_pickle items others tail rest payload kinds p q =
+    let old : Unread = record { place = 4; bytes = p.0 } in
+    let first = items_only items tail old p.2 in
+    let second = items_only others rest old (subst (AreItems others rest) (one_body q.0 p.0 payload q.1 p.1) q.2) in
+    let same : ◌≡◌ {A = List Item × Unread} (items, first.0) (others, second.0) = ok_is (items, first.0) (others, second.0) (sym first.1 ∙ ap (λ (k : List ItemKind). items_at k old) kinds ∙ second.1) in
+    let tails : tail ≡ rest = sym first.2 ∙ ap (λ (y : List Item × Unread). y.1.bytes) same ∙ second.2 in
+    ap (λ (y : List Item × Unread). Pickled y.0 tail) same ∙ ap (Pickled others) tails
+
 -- a payload has one layout of a shape
-pub one_layout : (l m : Layout) (payload : List ℕ) → length payload ≤ 65534 → shape l ≡ shape m → IsLaidOut l payload → IsLaidOut m payload → l ≡ m
+pub one_layout : (l m : Layout) (payload : List ℕ) → shape l ≡ shape m → IsLaidOut l payload → IsLaidOut m payload → l ≡ m
 unfolding IsLaidOut
-one_layout (Fixed fields) (Fixed others) payload short same p q = ap Fixed (one_fields fields others payload (cc) p q)
-one_layout (Fixed fields) (Pickled items tail) payload short same p q = absurd cc
-one_layout (Pickled items tail) (Fixed fields) payload short same p q = absurd cc
-one_layout (Pickled items tail) (Pickled others rest) payload short same p q =
-    let r = one_reading items others tail rest payload (omega arith) (cc) p q in
-    ap (λ (x : List Item). Pickled x tail) r.0 ∙ ap (λ (x : List ℕ). Pickled others x) r.1
+one_layout (Fixed fields) (Fixed others) payload same p q = ap Fixed (one_fields fields others payload (cc) p q)
+one_layout (Fixed fields) (Pickled items tail) payload same p q = absurd cc
+one_layout (Pickled items tail) (Fixed fields) payload same p q = absurd cc
+one_layout (Pickled items tail) (Pickled others rest) payload same p q = one_pickle items others tail rest payload (cc) p q
 
 read_ok : {X : Type 0} (r : Result X PickleFault) → option_map (λ (x : PickleFault). Pickle x) (pickle_fault_of r) ≡ None → (x : X) × (r ≡ Ok x)
 read_ok (Ok x) none = (x, refl)

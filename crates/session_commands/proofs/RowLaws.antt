@@ -18,57 +18,70 @@ use Rattle.session_commands.specs.declared.command.SessionCommand.{SessionComman
 use Rattle.session_commands.specs.declared.command.SessionCommand.TheVariants.{TabWindow, TabIndex, PrunedBack, UpdateNavigation, SelectNavigation, SelectTab, WindowKind, PrunedFront, Pinned, Extension, WindowBounds, WindowApp, TabClosed, WindowClosed, SessionStorage, ActiveWindow, LastActive, Workspace, Pruned, TabGroup, GroupData, TabGuid, UserAgent, UserTitle, AllWorkspaces, TabExtra, WindowExtra, Raw}
 use Rattle.session_commands.proofs.LayoutLaws.{is_short}
 
-abbrev Maker : Type 0
-Maker = (layout : Layout) → IsWhole layout → Option SessionCommand
-
-abbrev of_int : (ℤ → SessionCommand) → Maker
-of_int f (Fixed (Int a ∷ [])) whole = Some (f a)
-of_int f _ whole = None
-
-abbrev of_two_ints : (ℤ → ℤ → SessionCommand) → Maker
-of_two_ints f (Fixed (Int a ∷ Int b ∷ [])) whole = Some (f a b)
-of_two_ints f _ whole = None
-
-abbrev of_three_ints : (ℤ → ℤ → ℤ → SessionCommand) → Maker
-of_three_ints f (Fixed (Int a ∷ Int b ∷ Int c ∷ [])) whole = Some (f a b c)
-of_three_ints f _ whole = None
-
-abbrev of_six_ints : (ℤ → Bounds → SessionCommand) → Maker
-of_six_ints f (Fixed (Int a ∷ Int b ∷ Int c ∷ Int d ∷ Int e ∷ Int g ∷ [])) whole =
-    Some (f a (record { x = b; y = c; width = d; height = e; show = g }))
-of_six_ints f _ whole = None
-
-abbrev of_int_flag : (ℤ → Bool → SessionCommand) → Maker
-of_int_flag f (Fixed (Int a ∷ Flag b ∷ Free n ∷ [])) whole = Some (f a b)
-of_int_flag f _ whole = None
-
-abbrev of_int_time : (ℤ → ℤ → SessionCommand) → Maker
-of_int_time f (Fixed (Int a ∷ Free n ∷ Int64 t ∷ [])) whole = Some (f a t)
-of_int_time f _ whole = None
-
-abbrev of_tab_group : (ℤ → ℕ → ℕ → Bool → SessionCommand) → Maker
-of_tab_group f (Fixed (Int a ∷ Free n ∷ Uint64 h ∷ Uint64 l ∷ Flag b ∷ Free m ∷ [])) whole = Some (f a h l b)
-of_tab_group f _ whole = None
-
-abbrev of_int_rest : (ℤ → List ℕ → SessionCommand) → Maker
-of_int_rest f (Pickled (IntItem a ∷ []) tail) whole = Some (f a tail)
-of_int_rest f _ whole = None
-
-abbrev of_int_text : (ℤ → List ℕ → List ℕ → SessionCommand) → Maker
-of_int_text f (Pickled (IntItem a ∷ TextItem t ∷ []) tail) whole = Some (f a t tail)
-of_int_text f _ whole = None
-
-abbrev of_int_two_texts : (ℤ → List ℕ → List ℕ → List ℕ → SessionCommand) → Maker
-of_int_two_texts f (Pickled (IntItem a ∷ TextItem t ∷ TextItem u ∷ []) tail) whole = Some (f a t u tail)
-of_int_two_texts f _ whole = None
-
--- a navigation is its texts, its transition and its rest
+-- what the types of a navigation and of a group keep
 abbrev NavigationFacts : List ℕ → List ℕ → List ℕ → List ℕ → Type 0
 NavigationFacts url title page_state rest = (length rest % 4 ≡ 0) × (navigation_size (length url) (2 * length title) (length page_state) (length rest) ≤ 65534)
 
 NavigationFacts-prop : (url title page_state rest : List ℕ) → IsProp (NavigationFacts url title page_state rest)
 NavigationFacts-prop url title page_state rest = hlevel props
 
+abbrev GroupFacts : List ℕ → List ℕ → Type 0
+GroupFacts title rest = (length rest % 4 ≡ 0) × (group_size (2 * length title) (length rest) ≤ 65534)
+
+GroupFacts-prop : (title rest : List ℕ) → IsProp (GroupFacts title rest)
+GroupFacts-prop title rest = hlevel props
+
+-- the same of a layout, which the rows of all commands have
+abbrev pub Keeps : Layout → Type 0
+Keeps (Pickled (IntItem a ∷ IntItem b ∷ TextItem url ∷ UnitsItem title ∷ TextItem page_state ∷ IntItem c ∷ []) rest) = NavigationFacts url title page_state rest
+Keeps (Pickled (Uint64Item high ∷ Uint64Item low ∷ UnitsItem title ∷ Uint32Item colour ∷ []) rest) = GroupFacts title rest
+Keeps _ = Unit {0}
+
+abbrev Maker : Type 0
+Maker = (layout : Layout) → Keeps layout → Option SessionCommand
+
+abbrev of_int : (ℤ → SessionCommand) → Maker
+of_int f (Fixed (Int a ∷ [])) keeps = Some (f a)
+of_int f _ keeps = None
+
+abbrev of_two_ints : (ℤ → ℤ → SessionCommand) → Maker
+of_two_ints f (Fixed (Int a ∷ Int b ∷ [])) keeps = Some (f a b)
+of_two_ints f _ keeps = None
+
+abbrev of_three_ints : (ℤ → ℤ → ℤ → SessionCommand) → Maker
+of_three_ints f (Fixed (Int a ∷ Int b ∷ Int c ∷ [])) keeps = Some (f a b c)
+of_three_ints f _ keeps = None
+
+abbrev of_six_ints : (ℤ → Bounds → SessionCommand) → Maker
+of_six_ints f (Fixed (Int a ∷ Int b ∷ Int c ∷ Int d ∷ Int e ∷ Int g ∷ [])) keeps =
+    Some (f a (record { x = b; y = c; width = d; height = e; show = g }))
+of_six_ints f _ keeps = None
+
+abbrev of_int_flag : (ℤ → Bool → SessionCommand) → Maker
+of_int_flag f (Fixed (Int a ∷ Flag b ∷ Free n ∷ [])) keeps = Some (f a b)
+of_int_flag f _ keeps = None
+
+abbrev of_int_time : (ℤ → ℤ → SessionCommand) → Maker
+of_int_time f (Fixed (Int a ∷ Free n ∷ Int64 t ∷ [])) keeps = Some (f a t)
+of_int_time f _ keeps = None
+
+abbrev of_tab_group : (ℤ → ℕ → ℕ → Bool → SessionCommand) → Maker
+of_tab_group f (Fixed (Int a ∷ Free n ∷ Uint64 h ∷ Uint64 l ∷ Flag b ∷ Free m ∷ [])) keeps = Some (f a h l b)
+of_tab_group f _ keeps = None
+
+abbrev of_int_rest : (ℤ → List ℕ → SessionCommand) → Maker
+of_int_rest f (Pickled (IntItem a ∷ []) tail) keeps = Some (f a tail)
+of_int_rest f _ keeps = None
+
+abbrev of_int_text : (ℤ → List ℕ → List ℕ → SessionCommand) → Maker
+of_int_text f (Pickled (IntItem a ∷ TextItem t ∷ []) tail) keeps = Some (f a t tail)
+of_int_text f _ keeps = None
+
+abbrev of_int_two_texts : (ℤ → List ℕ → List ℕ → List ℕ → SessionCommand) → Maker
+of_int_two_texts f (Pickled (IntItem a ∷ TextItem t ∷ TextItem u ∷ []) tail) keeps = Some (f a t u tail)
+of_int_two_texts f _ keeps = None
+
+-- a navigation is its texts, its transition and its rest
 abbrev navigation_of : (url title page_state : List ℕ) (transition : ℤ) (rest : List ℕ) → NavigationFacts url title page_state rest → Navigation
 navigation_of url title page_state transition rest h = record { url = url; title = title; page_state = page_state; transition = transition; rest = rest; whole = h.0; short = h.1 }
 
@@ -76,20 +89,14 @@ pub navigation_facts : (tab index : ℤ) (url title page_state : List ℕ) (tran
 navigation_facts tab index url title page_state transition rest whole = (whole.0, omega (arith, whole.1))
 
 abbrev of_navigation : (ℤ → ℤ → Navigation → SessionCommand) → Maker
-of_navigation f (Pickled (IntItem a ∷ IntItem b ∷ TextItem u ∷ UnitsItem t ∷ TextItem p ∷ IntItem c ∷ []) rest) whole =
-    Some (f a b (navigation_of u t p c rest (navigation_facts a b u t p c rest whole)))
-of_navigation f _ whole = None
+of_navigation f (Pickled (IntItem a ∷ IntItem b ∷ TextItem u ∷ UnitsItem t ∷ TextItem p ∷ IntItem c ∷ []) rest) keeps =
+    Some (f a b (navigation_of u t p c rest keeps))
+of_navigation f _ keeps = None
 
 navigation_same : (n : Navigation) (h : NavigationFacts n.url n.title n.page_state n.rest) → navigation_of n.url n.title n.page_state n.transition n.rest h ≡ n
 navigation_same n h = ap (navigation_of n.url n.title n.page_state n.transition n.rest) (NavigationFacts-prop n.url n.title n.page_state n.rest h (n.whole, n.short))
 
 -- a group is its token, its title, its colour and its rest
-abbrev GroupFacts : List ℕ → List ℕ → Type 0
-GroupFacts title rest = (length rest % 4 ≡ 0) × (group_size (2 * length title) (length rest) ≤ 65534)
-
-GroupFacts-prop : (title rest : List ℕ) → IsProp (GroupFacts title rest)
-GroupFacts-prop title rest = hlevel props
-
 abbrev group_of : (high low : ℕ) (title : List ℕ) (colour : ℕ) (rest : List ℕ) → GroupFacts title rest → GroupInfo
 group_of high low title colour rest h = record { high = high; low = low; title = title; colour = colour; rest = rest; whole = h.0; short = h.1 }
 
@@ -97,88 +104,88 @@ pub group_facts : (high low : ℕ) (title : List ℕ) (colour : ℕ) (rest : Lis
 group_facts high low title colour rest whole = (whole.0, omega (arith, whole.1))
 
 abbrev of_group : (GroupInfo → SessionCommand) → Maker
-of_group f (Pickled (Uint64Item h ∷ Uint64Item l ∷ UnitsItem t ∷ Uint32Item c ∷ []) rest) whole =
-    Some (f (group_of h l t c rest (group_facts h l t c rest whole)))
-of_group f _ whole = None
+of_group f (Pickled (Uint64Item h ∷ Uint64Item l ∷ UnitsItem t ∷ Uint32Item c ∷ []) rest) keeps =
+    Some (f (group_of h l t c rest keeps))
+of_group f _ keeps = None
 
 group_same : (g : GroupInfo) (h : GroupFacts g.title g.rest) → group_of g.high g.low g.title g.colour g.rest h ≡ g
 group_same g h = ap (group_of g.high g.low g.title g.colour g.rest) (GroupFacts-prop g.title g.rest h (g.whole, g.short))
 
 -- the command whose row has this id and this layout
 abbrev command_of : ℕ → Maker
-command_of id layout whole =
-    if id == 0 then of_two_ints (λ a b. TabWindow a b) layout whole else
-    (if id == 2 then of_two_ints (λ a b. TabIndex a b) layout whole else
-    (if id == 5 then of_two_ints (λ a b. PrunedBack a b) layout whole else
-    (if id == 6 then of_navigation (λ a b n. UpdateNavigation a b n) layout whole else
-    (if id == 7 then of_two_ints (λ a b. SelectNavigation a b) layout whole else
-    (if id == 8 then of_two_ints (λ a b. SelectTab a b) layout whole else
-    (if id == 9 then of_two_ints (λ a b. WindowKind a b) layout whole else
-    (if id == 11 then of_two_ints (λ a b. PrunedFront a b) layout whole else
-    (if id == 12 then of_int_flag (λ a b. Pinned a b) layout whole else
-    (if id == 13 then of_int_text (λ a t tail. Extension a t tail) layout whole else
-    (if id == 14 then of_six_ints (λ a b. WindowBounds a b) layout whole else
-    (if id == 15 then of_int_text (λ a t tail. WindowApp a t tail) layout whole else
-    (if id == 16 then of_int_time (λ a t. TabClosed a t) layout whole else
-    (if id == 17 then of_int_time (λ a t. WindowClosed a t) layout whole else
-    (if id == 19 then of_int_text (λ a t tail. SessionStorage a t tail) layout whole else
-    (if id == 20 then of_int (λ a. ActiveWindow a) layout whole else
-    (if id == 21 then of_int_time (λ a t. LastActive a t) layout whole else
-    (if id == 23 then of_int_text (λ a t tail. Workspace a t tail) layout whole else
-    (if id == 24 then of_three_ints (λ a b c. Pruned a b c) layout whole else
-    (if id == 25 then of_tab_group (λ a h l b. TabGroup a h l b) layout whole else
-    (if id == 27 then of_group (λ g. GroupData g) layout whole else
-    (if id == 28 then of_int_text (λ a t tail. TabGuid a t tail) layout whole else
-    (if id == 29 then of_int_rest (λ a tail. UserAgent a tail) layout whole else
-    (if id == 31 then of_int_text (λ a t tail. UserTitle a t tail) layout whole else
-    (if id == 32 then of_int_flag (λ a b. AllWorkspaces a b) layout whole else
-    (if id == 33 then of_int_two_texts (λ a t u tail. TabExtra a t u tail) layout whole else
-    (if id == 34 then of_int_two_texts (λ a t u tail. WindowExtra a t u tail) layout whole else None))))))))))))))))))))))))))
+command_of id layout keeps =
+    if id == 0 then of_two_ints (λ a b. TabWindow a b) layout keeps else
+    (if id == 2 then of_two_ints (λ a b. TabIndex a b) layout keeps else
+    (if id == 5 then of_two_ints (λ a b. PrunedBack a b) layout keeps else
+    (if id == 6 then of_navigation (λ a b n. UpdateNavigation a b n) layout keeps else
+    (if id == 7 then of_two_ints (λ a b. SelectNavigation a b) layout keeps else
+    (if id == 8 then of_two_ints (λ a b. SelectTab a b) layout keeps else
+    (if id == 9 then of_two_ints (λ a b. WindowKind a b) layout keeps else
+    (if id == 11 then of_two_ints (λ a b. PrunedFront a b) layout keeps else
+    (if id == 12 then of_int_flag (λ a b. Pinned a b) layout keeps else
+    (if id == 13 then of_int_text (λ a t tail. Extension a t tail) layout keeps else
+    (if id == 14 then of_six_ints (λ a b. WindowBounds a b) layout keeps else
+    (if id == 15 then of_int_text (λ a t tail. WindowApp a t tail) layout keeps else
+    (if id == 16 then of_int_time (λ a t. TabClosed a t) layout keeps else
+    (if id == 17 then of_int_time (λ a t. WindowClosed a t) layout keeps else
+    (if id == 19 then of_int_text (λ a t tail. SessionStorage a t tail) layout keeps else
+    (if id == 20 then of_int (λ a. ActiveWindow a) layout keeps else
+    (if id == 21 then of_int_time (λ a t. LastActive a t) layout keeps else
+    (if id == 23 then of_int_text (λ a t tail. Workspace a t tail) layout keeps else
+    (if id == 24 then of_three_ints (λ a b c. Pruned a b c) layout keeps else
+    (if id == 25 then of_tab_group (λ a h l b. TabGroup a h l b) layout keeps else
+    (if id == 27 then of_group (λ g. GroupData g) layout keeps else
+    (if id == 28 then of_int_text (λ a t tail. TabGuid a t tail) layout keeps else
+    (if id == 29 then of_int_rest (λ a tail. UserAgent a tail) layout keeps else
+    (if id == 31 then of_int_text (λ a t tail. UserTitle a t tail) layout keeps else
+    (if id == 32 then of_int_flag (λ a b. AllWorkspaces a b) layout keeps else
+    (if id == 33 then of_int_two_texts (λ a t u tail. TabExtra a t u tail) layout keeps else
+    (if id == 34 then of_int_two_texts (λ a t u tail. WindowExtra a t u tail) layout keeps else None))))))))))))))))))))))))))
 
 -- The table says one thing for a command: its row has the shape of its id, and is no other's.
 abbrev pub Joined : SessionCommand → Row → Type 0
 Joined c (Known id layout) =
-    (shape_of id ≡ Some (shape layout)) × ((whole : IsWhole layout) → command_of id layout whole ≡ Some c) × (is_short (shape layout) ≡ true)
+    (shape_of id ≡ Some (shape layout)) × ((keeps : Keeps layout) → command_of id layout keeps ≡ Some c) × (is_short (shape layout) ≡ true) × Keeps layout
 Joined c (Kept raw) = c ≡ Raw raw
 
 pub joined : (c : SessionCommand) → Joined c (row c)
-joined (TabWindow window tab) = (refl, (λ _. refl), refl)
-joined (TabIndex tab index) = (refl, (λ _. refl), refl)
-joined (PrunedBack tab index) = (refl, (λ _. refl), refl)
+joined (TabWindow window tab) = (refl, (λ _. refl), refl, tt)
+joined (TabIndex tab index) = (refl, (λ _. refl), refl, tt)
+joined (PrunedBack tab index) = (refl, (λ _. refl), refl, tt)
 joined (UpdateNavigation tab index navigation) =
-    (refl, (λ whole. ap (λ (n : Navigation). Some (UpdateNavigation tab index n)) (navigation_same navigation (navigation_facts tab index navigation.url navigation.title navigation.page_state navigation.transition navigation.rest whole))), refl)
-joined (SelectNavigation tab index) = (refl, (λ _. refl), refl)
-joined (SelectTab window index) = (refl, (λ _. refl), refl)
-joined (WindowKind window kind) = (refl, (λ _. refl), refl)
-joined (PrunedFront tab count) = (refl, (λ _. refl), refl)
-joined (Pinned tab pinned) = (refl, (λ _. refl), refl)
-joined (Extension tab extension tail) = (refl, (λ _. refl), refl)
-joined (WindowBounds window bounds) = (refl, (λ _. refl), refl)
-joined (WindowApp window name tail) = (refl, (λ _. refl), refl)
-joined (TabClosed tab time) = (refl, (λ _. refl), refl)
-joined (WindowClosed window time) = (refl, (λ _. refl), refl)
-joined (SessionStorage tab storage tail) = (refl, (λ _. refl), refl)
-joined (ActiveWindow window) = (refl, (λ _. refl), refl)
-joined (LastActive tab time) = (refl, (λ _. refl), refl)
-joined (Workspace window workspace tail) = (refl, (λ _. refl), refl)
-joined (Pruned tab index count) = (refl, (λ _. refl), refl)
-joined (TabGroup tab high low grouped) = (refl, (λ _. refl), refl)
+    (refl, (λ keeps. ap (λ (n : Navigation). Some (UpdateNavigation tab index n)) (navigation_same navigation keeps)), refl, (navigation.whole, navigation.short))
+joined (SelectNavigation tab index) = (refl, (λ _. refl), refl, tt)
+joined (SelectTab window index) = (refl, (λ _. refl), refl, tt)
+joined (WindowKind window kind) = (refl, (λ _. refl), refl, tt)
+joined (PrunedFront tab count) = (refl, (λ _. refl), refl, tt)
+joined (Pinned tab pinned) = (refl, (λ _. refl), refl, tt)
+joined (Extension tab extension tail) = (refl, (λ _. refl), refl, tt)
+joined (WindowBounds window bounds) = (refl, (λ _. refl), refl, tt)
+joined (WindowApp window name tail) = (refl, (λ _. refl), refl, tt)
+joined (TabClosed tab time) = (refl, (λ _. refl), refl, tt)
+joined (WindowClosed window time) = (refl, (λ _. refl), refl, tt)
+joined (SessionStorage tab storage tail) = (refl, (λ _. refl), refl, tt)
+joined (ActiveWindow window) = (refl, (λ _. refl), refl, tt)
+joined (LastActive tab time) = (refl, (λ _. refl), refl, tt)
+joined (Workspace window workspace tail) = (refl, (λ _. refl), refl, tt)
+joined (Pruned tab index count) = (refl, (λ _. refl), refl, tt)
+joined (TabGroup tab high low grouped) = (refl, (λ _. refl), refl, tt)
 joined (GroupData group) =
-    (refl, (λ whole. ap (λ (g : GroupInfo). Some (GroupData g)) (group_same group (group_facts group.high group.low group.title group.colour group.rest whole))), refl)
-joined (TabGuid tab guid tail) = (refl, (λ _. refl), refl)
-joined (UserAgent tab rest) = (refl, (λ _. refl), refl)
-joined (UserTitle window title tail) = (refl, (λ _. refl), refl)
-joined (AllWorkspaces window all) = (refl, (λ _. refl), refl)
-joined (TabExtra tab key value tail) = (refl, (λ _. refl), refl)
-joined (WindowExtra window key value tail) = (refl, (λ _. refl), refl)
+    (refl, (λ keeps. ap (λ (g : GroupInfo). Some (GroupData g)) (group_same group keeps)), refl, (group.whole, group.short))
+joined (TabGuid tab guid tail) = (refl, (λ _. refl), refl, tt)
+joined (UserAgent tab rest) = (refl, (λ _. refl), refl, tt)
+joined (UserTitle window title tail) = (refl, (λ _. refl), refl, tt)
+joined (AllWorkspaces window all) = (refl, (λ _. refl), refl, tt)
+joined (TabExtra tab key value tail) = (refl, (λ _. refl), refl, tt)
+joined (WindowExtra window key value tail) = (refl, (λ _. refl), refl, tt)
 joined (Raw raw) = refl
 
 -- a row is no other command's
-pub row_injective : (c d : SessionCommand) (i j : ℕ) (l m : Layout) → IsWhole l → Joined c (Known i l) → Joined d (Known j m) → i ≡ j → l ≡ m → d ≡ c
-row_injective c d i j l m whole p q same layout =
-    let at_l = subst (λ (x : Layout). (whole' : IsWhole x) → command_of j x whole' ≡ Some d) (sym layout) q.1 in
-    let at_i = subst (λ (x : ℕ). command_of x l whole ≡ Some d) (sym same) (at_l whole) in
-    let both : Some c ≡ Some d = sym (p.1 whole) ∙ at_i in cc
+pub row_injective : (c d : SessionCommand) (i j : ℕ) (l m : Layout) → Joined c (Known i l) → Joined d (Known j m) → i ≡ j → l ≡ m → d ≡ c
+row_injective c d i j l m p q same layout =
+    let at_l = subst (λ (x : Layout). (keeps : Keeps x) → command_of j x keeps ≡ Some d) (sym layout) q.1 in
+    let at_i = subst (λ (x : ℕ). command_of x l p.3 ≡ Some d) (sym same) (at_l p.3) in
+    let both : Some c ≡ Some d = sym (p.1 p.3) ∙ at_i in cc
 
 -- ---- a layout of an id's shape is some command's
 

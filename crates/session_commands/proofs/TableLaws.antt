@@ -45,19 +45,19 @@ no_row raw id layout known e is =
     let none : fault_of raw.id raw.payload ≡ None = rw (sym e, known) (accepted layout raw.payload raw.short is) in
     let bad = rw none at raw.refused in cc
 
-one : (c d : SessionCommand) (r s : Row) (id : ℕ) (payload : List ℕ) → length payload ≤ 65534 → Joined c r → Joined d s → Holds r id payload → Holds s id payload → d ≡ c
-one c d (Known i l) (Known j m) id payload short p q h k =
+one : (c d : SessionCommand) (r s : Row) (id : ℕ) (payload : List ℕ) → Joined c r → Joined d s → Holds r id payload → Holds s id payload → d ≡ c
+one c d (Known i l) (Known j m) id payload p q h k =
     let same : i ≡ j = sym h.0 ∙ k.0 in
     let shapes : Some (shape l) ≡ Some (shape m) = sym p.0 ∙ ap shape_of same ∙ q.0 in
-    let layout : l ≡ m = one_layout l m payload short (cc) h.1 k.1 in
-    row_injective c d i j l m (whole_of l payload short h.1) p q same layout
-one c d (Known i l) (Kept raw) id payload short p q h k = absurd (no_row raw i l p.0 (sym h.0 ∙ k.0) (rw k.1 at h.1))
-one c d (Kept raw) (Known j m) id payload short p q h k = absurd (no_row raw j m q.0 (sym k.0 ∙ h.0) (rw h.1 at k.1))
-one c d (Kept raw) (Kept other) id payload short p q h k = q ∙ ap Raw (raw_same other raw (sym k.0 ∙ h.0) (sym k.1 ∙ h.1)) ∙ sym p
+    let layout : l ≡ m = one_layout l m payload (cc) h.1 k.1 in
+    row_injective c d i j l m p q same layout
+one c d (Known i l) (Kept raw) id payload p q h k = absurd (no_row raw i l p.0 (sym h.0 ∙ k.0) (rw k.1 at h.1))
+one c d (Kept raw) (Known j m) id payload p q h k = absurd (no_row raw j m q.0 (sym k.0 ∙ h.0) (rw h.1 at k.1))
+one c d (Kept raw) (Kept other) id payload p q h k = q ∙ ap Raw (raw_same other raw (sym k.0 ∙ h.0) (sym k.1 ∙ h.1)) ∙ sym p
 
--- a payload has one command
-pub one_command : (c d : SessionCommand) (id : ℕ) (payload : List ℕ) → length payload ≤ 65534 → Payload id c payload → Payload id d payload → d ≡ c
-one_command c d id payload short h k = one c d (row c) (row d) id payload short (joined c) (joined d) h k
+-- a payload of any length has one command
+pub one_command : (c d : SessionCommand) (id : ℕ) (payload : List ℕ) → Payload id c payload → Payload id d payload → d ≡ c
+one_command c d id payload h k = one c d (row c) (row d) id payload (joined c) (joined d) h k
 
 sound_row : (r : Row) (id : ℕ) (payload : List ℕ) → length payload ≤ 65534 → Holds r id payload → RowIsWhole r
 sound_row (Known own layout) id payload short h = whole_of layout payload short h.1

@@ -3,4 +3,4 @@ use Rattle.session_commands.proofs.TableLaws.{one_command}
 use Rattle.session_commands.proofs.command.SessionCommand.read.Goals as goal
 
 pub returns-clause-only : goal.returns-clause-only
-returns-clause-only c = λ other h. one_command _ other c.args.id c.args.payload.now c.requires (refl, sym c.in_ok-payload.ensures) h
+returns-clause-only c = λ other h. one_command _ other c.args.id c.args.payload.now (refl, sym c.in_ok-payload.ensures) h
