@@ -2,12 +2,14 @@
 ghost use Rattle.std.specs.Prelude.{◌≡◌, ◌≤◌, nat_le, [], length, map, not, is_some, true, IfOk, OnOk, OnErr};
 ghost use Rattle.std.specs.Option.{option_copied};
 ghost use Rattle.std.specs.List.Sorted.{IsStrictlySortedBy};
+ghost use Rattle.std.specs.Map.Iter.{ShowsInOrder, deref};
 ghost use Rattle.std.specs.declared.cmp.Ordering.TheVariants.{Equal};
 ghost use Rattle.window_state.specs.Limits.{limit};
 ghost use Rattle.window_state.specs.RowLists.{find_row, put_row, step_row, without_row};
 
 use std::alloc::{AllocError, Global};
 use std::collections::BTreeMap;
+use std::collections::btree_map::Values;
 use std::marker::Model;
 
 /// The most tabs, and the most windows, of a state.
@@ -79,6 +81,15 @@ impl<R: Row> Rows<R> {
         ensures ordered { IsStrictlySortedBy R.Key.cmp (map R.key self.now) }
     {
         self.rows.len()
+    }
+
+    /// The rows by rising key.
+    pub fn iter(&self) -> Values<'_, R::Key, R>
+        ensures rest { result ≡ self.now }
+        ensures runs { ShowsInOrder (deref {X = R}) }
+        ensures ordered { IsStrictlySortedBy R.Key.cmp (map R.key self.now) }
+    {
+        self.rows.values()
     }
 
     pub fn get(&self, id: R::Key) -> Option<&R>
