@@ -1,0 +1,21 @@
+-- The laws of a session's commands and states.
+use Rattle.std.proofs.Common.{true≢false, sym}
+use Rattle.session_commands.specs.Table.{IsSound}
+use Rattle.session_commands.proofs.TableLaws.{one_command}
+use Rattle.window_state.specs.States.{IsState}
+use Rattle.machine_law.specs.Kind.{IsLawful, IsMarker}
+use Rattle.compactor.specs.Compaction.{compaction}
+use Rattle.compactor.specs.SessionKind.{session_kind}
+use Rattle.compactor.proofs.FoldsBack.{folds_back}
+use Rattle.compactor.proofs.Counts.{few}
+use Rattle.compactor.proofs.Plain.{plain, plain-of, unmarked, marker-leaves}
+
+pub session_lawful : IsLawful session_kind IsState IsSound
+session_lawful = record {
+  folds_back = folds_back;
+  at_most = λ state is. few state;
+  unmarked = λ state is. plain-of (λ command. IsMarker session_kind command → ⊥) unmarked (compaction state) (plain state is.kept).all;
+  only = λ id payload command other first second. one_command command other id payload first second;
+  marker = λ state command is. marker-leaves state command is;
+  covered = λ state first second is first_is second_is covers. absurd (true≢false (sym covers));
+}
