@@ -1,9 +1,3 @@
-pub mod Runs
-pub mod Appended
-pub mod WindowRuns
-pub mod TabRuns
-pub mod FoldsBack
-pub mod Counts
-pub mod Plain
-pub mod SessionLaws
+pub mod Pieces
+pub mod Weights
 mod WorkedCompactions

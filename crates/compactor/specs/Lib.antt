@@ -1,2 +1,3 @@
 pub mod Compaction
 pub mod SessionKind
+pub mod Laws

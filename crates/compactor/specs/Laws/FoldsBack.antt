@@ -17,10 +17,10 @@ use Rattle.window_state.specs.States.{State, start, HasWindow, IsState}
 use Rattle.machine_law.specs.Kind.{fold}
 use Rattle.compactor.specs.Compaction.{window_commands, tab_commands, compaction}
 use Rattle.compactor.specs.SessionKind.{session_kind}
-use Rattle.compactor.proofs.Appended.{all-here, length-here, behind-sorted, put-behind}
-use Rattle.compactor.proofs.Runs.{Leads, followed, leads-given, leads-flat, leads-map}
-use Rattle.compactor.proofs.WindowRuns.{with_windows, leads-window}
-use Rattle.compactor.proofs.TabRuns.{with_tabs, leads-tab}
+use Rattle.compactor.specs.Laws.Appended.{all-here, length-here, behind-sorted, put-behind}
+use Rattle.compactor.specs.Laws.Runs.{Leads, followed, leads-given, leads-flat, leads-map}
+use Rattle.compactor.specs.Laws.WindowRuns.{with_windows, leads-window}
+use Rattle.compactor.specs.Laws.TabRuns.{with_tabs, leads-tab}
 
 greater : {K : Type 0} (cmp : K → K → Ordering) → IsTotalOrder cmp → (x y : K) → cmp x y ≡ Less → cmp y x ≡ Greater
 greater cmp total x y is = total.antisymm y x ∙ rw is refl

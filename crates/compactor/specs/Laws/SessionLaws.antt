@@ -6,9 +6,9 @@ use Rattle.window_state.specs.States.{IsState}
 use Rattle.machine_law.specs.Kind.{IsLawful, IsMarker}
 use Rattle.compactor.specs.Compaction.{compaction}
 use Rattle.compactor.specs.SessionKind.{session_kind}
-use Rattle.compactor.proofs.FoldsBack.{folds_back}
-use Rattle.compactor.proofs.Counts.{few}
-use Rattle.compactor.proofs.Plain.{plain, plain-of, unmarked, marker-leaves}
+use Rattle.compactor.specs.Laws.FoldsBack.{folds_back}
+use Rattle.compactor.specs.Laws.Counts.{few}
+use Rattle.compactor.specs.Laws.Plain.{plain, plain-of, unmarked, marker-leaves}
 
 pub session_lawful : IsLawful session_kind IsState IsSound
 session_lawful = record {

@@ -14,8 +14,8 @@ use Rattle.window_state.specs.Changes.{new_window, set_pair}
 use Rattle.window_state.specs.States.{State, start, on_window}
 use Rattle.window_state.proofs.StateLaws.{itself}
 use Rattle.compactor.specs.Compaction.{window_commands}
-use Rattle.compactor.proofs.Appended.{IsBehind, step-behind, step-last, set-pair-behind}
-use Rattle.compactor.proofs.Runs.{Leads, followed, leads-one, leads-given, leads-flagged, leads-unusual, leads-map}
+use Rattle.compactor.specs.Laws.Appended.{IsBehind, step-behind, step-last, set-pair-behind}
+use Rattle.compactor.specs.Laws.Runs.{Leads, followed, leads-one, leads-given, leads-flagged, leads-unusual, leads-map}
 
 -- one more row is within the limit
 pub within-push : {R : Type 0} (done : List R) (row : R) → length done < limit → nat_le (length (done ++ row ∷ [])) limit ≡ true

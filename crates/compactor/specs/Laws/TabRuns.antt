@@ -17,9 +17,9 @@ use Rattle.window_state.specs.Changes.{new_tab, new_window, put_page, set_pair}
 use Rattle.window_state.specs.States.{State, HasWindow, stands, on_tab, placed}
 use Rattle.window_state.proofs.StateLaws.{itself}
 use Rattle.compactor.specs.Compaction.{tab_commands}
-use Rattle.compactor.proofs.Appended.{IsBehind, step-behind, step-last, step-standing, put-page-behind, set-pair-behind}
-use Rattle.compactor.proofs.Runs.{Leads, followed, leads-one, leads-given, leads-flagged, leads-unusual, leads-map}
-use Rattle.compactor.proofs.WindowRuns.{within-push}
+use Rattle.compactor.specs.Laws.Appended.{IsBehind, step-behind, step-last, step-standing, put-page-behind, set-pair-behind}
+use Rattle.compactor.specs.Laws.Runs.{Leads, followed, leads-one, leads-given, leads-flagged, leads-unusual, leads-map}
+use Rattle.compactor.specs.Laws.WindowRuns.{within-push}
 
 abbrev pub with_tabs : List Window → List Tab → State
 with_tabs windows tabs = record { tabs = tabs; windows = windows; groups = []; active = None }

@@ -1,0 +1,9 @@
+-- What is proved of a session as a machine. It stands among the definitions since the machine itself says it.
+pub mod Runs
+pub mod Appended
+pub mod WindowRuns
+pub mod TabRuns
+pub mod FoldsBack
+pub mod Counts
+pub mod Plain
+pub mod SessionLaws
