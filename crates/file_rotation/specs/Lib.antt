@@ -1,0 +1,13 @@
+pub mod Faults
+pub mod Stamps
+pub mod Reading
+pub mod Recovery
+pub mod Choice
+pub mod Replay
+pub mod Foreign
+pub mod Cleared
+pub mod Clearing
+pub use Rattle.machine_law.specs.Kind
+pub use Rattle.session_disk.specs.Moments
+pub use Rattle.session_disk.specs.Images
+pub use Rattle.session_disk.specs.Histories
