@@ -1,0 +1,12 @@
+pub mod FillLaws
+pub mod WalkLaws
+pub mod FileLaws
+pub mod FoldLaws
+pub mod SearchLaws
+pub mod RecoveryLaws
+pub mod ClearingLaws
+pub mod ChoiceLaws
+pub mod ExtensionLaws
+pub mod MarkedLaws
+pub mod SafeLaws
+pub mod ClearedLaws
