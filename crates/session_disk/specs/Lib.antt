@@ -8,4 +8,5 @@ pub mod Histories
 pub mod DiskFiles
 pub mod ChangeLog
 pub mod Recordings
+pub mod FailurePlans
 pub mod MemoryDisks

@@ -1,38 +1,45 @@
 //! A disk in memory, which tells its files and all its earlier moments.
-ghost use Rattle.std.specs.Prelude.{◌≡◌, true, ◌<◌, ◌≤◌, ◌^◌, [], length, IfOk, OnOk, OnErr, IsOk, IfSome, IsSome, IsNone};
+ghost use Rattle.std.specs.Prelude.{◌≡◌, false, true, ◌<◌, ◌≤◌, ◌^◌, [], length, take, IfOk, OnOk, OnErr, IsOk, IsErrOf, IfSome, IsSome, IsNone};
+ghost use Rattle.session_disk.specs.declared.failure.DiskError.TheVariants.{Failed};
 ghost use Rattle.session_disk.specs.Causes.{DiskHasCause};
 ghost use Rattle.session_disk.specs.DiskFiles.{is_listed, standing_in};
-ghost use Rattle.session_disk.specs.Moments.{IsAtRest, IsNewestBelow, IsReadAt, bytes_at};
+ghost use Rattle.session_disk.specs.FailurePlans.{no_failures, planned, FailsAsPlanned};
+ghost use Rattle.session_disk.specs.Histories.{Changes};
+ghost use Rattle.session_disk.specs.Moments.{IsAtRest, IsNewestBelow, IsReadAt, after_create, after_append, after_sync, after_remove, after_settle, after_tell, bytes_at};
 ghost use Rattle.session_disk.specs.Recordings.{empty_moment, with_safe_file};
 
 use crate::disk::SessionDisk;
 use crate::disk_file::DiskFile;
 use crate::failure::DiskError;
+use crate::failure_plan::{Call, Failure, FailurePlan, answer, one_failure, part_of};
 use crate::memory_stream::read_from;
 use crate::recording::Recording;
 use std::alloc::{AllocError, Global};
 
 /// Files in memory. It holds each byte once, and a few words for each call that changed something, until it is
 /// dropped: `append` takes time in the bytes that it adds, amortised, every other call in the number of files.
-/// A call that finds no memory changes nothing, and so is one that would make a file longer than 2^62 bytes
-/// or the count of creations larger than 2^64 - 1.
+/// A call that finds no memory leaves the files as they are, and so does one that would make a file longer than
+/// 2^62 bytes or the count of creations larger than 2^64 - 1.
 #[derive(Drop)]
 pub struct MemoryDisk {
     recording: Recording,
+    plan: FailurePlan,
     failed_calls: u64,
 }
 
 impl MemoryDisk {
-    ghost use Rattle.session_disk.specs.MemoryDisks.{history_of, failures_of};
+    ghost use Rattle.session_disk.specs.MemoryDisks.{history_of, failures_of, plan_of};
 
-    /// No files; nothing was told and nothing failed.
+    /// No files; nothing was told, nothing failed and no failure is planned.
     pub fn empty(alloc: Global) -> Result<MemoryDisk, AllocError>
         ensures history { IfOk result (λ disk. history_of disk ≡ record { now = empty_moment; past = [] }) }
         ensures at_rest { IfOk result (λ disk. IsAtRest (history_of disk).now) }
         ensures failures { IfOk result (λ disk. failures_of disk ≡ 0) }
+        ensures plan { IfOk result (λ disk. plan_of disk ≡ no_failures) }
     {
         Ok(MemoryDisk {
             recording: Recording::new(alloc),
+            plan: FailurePlan::none(alloc),
             failed_calls: 0,
         })
     }
@@ -49,8 +56,19 @@ impl MemoryDisk {
         ensures at_rest { IsAtRest (history_of self.new).now }
         ensures err { OnErr result (history_of self.new ≡ history_of self.old) }
         ensures failures { failures_of self.new ≡ failures_of self.old }
+        ensures plan { plan_of self.new ≡ plan_of self.old }
     {
         self.recording.add_file(stamp, bytes)
+    }
+
+    /// Plans failures of calls from now on, in place of those that were planned before.
+    pub fn fail(&mut self, plan: &[Failure]) -> Result<(), AllocError>
+        ensures ok { OnOk result (plan_of self.new ≡ record { coming = plan.now; broken = false }) }
+        ensures err { OnErr result (plan_of self.new ≡ plan_of self.old) }
+        ensures unchanged { history_of self.new ≡ history_of self.old }
+        ensures failures { failures_of self.new ≡ failures_of self.old }
+    {
+        self.plan.replace(plan)
     }
 
     /// The files that stand, by rising stamp.
@@ -63,7 +81,7 @@ impl MemoryDisk {
 }
 
 impl SessionDisk for MemoryDisk {
-    ghost use Rattle.session_disk.specs.MemoryDisks.{history_of, failures_of};
+    ghost use Rattle.session_disk.specs.MemoryDisks.{history_of, failures_of, plan_of, IsCounted};
 
     ghost tells = { Unit {0} };
 
@@ -81,8 +99,13 @@ impl SessionDisk for MemoryDisk {
         ensures newest { IfOk result (IsNewestBelow (history_of self.old).now.standing below) }
         ensures unchanged { history_of self.new ≡ history_of self.old }
         ensures cause { DiskHasCause (failures_of self.old) (failures_of self.new) result }
-        ensures succeeds { IsOk result }
+        ensures succeeds { planned Call.List (plan_of self.old) ≡ None → IsOk result }
+        ensures fails { IsSome (planned Call.List (plan_of self.old)) → IsErrOf result Failed }
+        ensures counted { IsCounted Call.List self.old self.new result }
     {
+        if self.plan.next(Call::List).is_some() {
+            return Err(one_failure(&mut self.failed_calls));
+        }
         Ok(self.recording.newest_below(below))
     }
 
@@ -92,8 +115,13 @@ impl SessionDisk for MemoryDisk {
         ensures value { IfOk result (λ n. n ≡ length (bytes_at stamp (history_of self.old).now)) }
         ensures unchanged { history_of self.new ≡ history_of self.old }
         ensures cause { DiskHasCause (failures_of self.old) (failures_of self.new) result }
-        ensures succeeds { IsOk result }
+        ensures succeeds { planned Call.Length (plan_of self.old) ≡ None → IsOk result }
+        ensures fails { IsSome (planned Call.Length (plan_of self.old)) → IsErrOf result Failed }
+        ensures counted { IsCounted Call.Length self.old self.new result }
     {
+        if self.plan.next(Call::Length).is_some() {
+            return Err(one_failure(&mut self.failed_calls));
+        }
         Ok(self.recording.bytes(stamp).len() as u64)
     }
 
@@ -103,38 +131,101 @@ impl SessionDisk for MemoryDisk {
         ensures bytes { IfOk result (λ n. IsReadAt (bytes_at stamp (history_of self.old).now) offset n into.new) }
         ensures unchanged { history_of self.new ≡ history_of self.old }
         ensures cause { DiskHasCause (failures_of self.old) (failures_of self.new) result }
-        ensures succeeds { IsOk result }
+        ensures succeeds { planned Call.Read (plan_of self.old) ≡ None → IsOk result }
+        ensures fails { IsSome (planned Call.Read (plan_of self.old)) → IsErrOf result Failed }
+        ensures counted { IsCounted Call.Read self.old self.new result }
     {
+        if self.plan.next(Call::Read).is_some() {
+            return Err(one_failure(&mut self.failed_calls));
+        }
         Ok(read_from(self.recording.bytes(stamp), offset, into))
     }
 
-    fn create(&mut self, stamp: u64) -> Result<(), DiskError> {
+    fn create(&mut self, stamp: u64) -> Result<(), DiskError>
+        requires in_range { stamp < 2 ^ 63 }
+        requires absent { IsNone ((history_of self.old).now.standing stamp) }
+        ensures changes { Changes (history_of self.old) (history_of self.new) result 0 (λ _. after_create stamp) }
+        ensures cause { DiskHasCause (failures_of self.old) (failures_of self.new) result }
+        ensures fails { FailsAsPlanned (planned Call.Create (plan_of self.old)) (history_of self.old) (history_of self.new) result 0 (λ _. after_create stamp) }
+        ensures counted { IsCounted Call.Create self.old self.new result }
+    {
+        let fault = self.plan.next(Call::Create);
+        if fault == Some(0) {
+            return Err(one_failure(&mut self.failed_calls));
+        }
         self.recording.create(stamp)?;
-        Ok(())
+        answer(fault, &mut self.failed_calls)
     }
 
-    fn append(&mut self, stamp: u64, bytes: &[u8]) -> Result<(), DiskError> {
-        self.recording.append(stamp, bytes)?;
-        Ok(())
+    fn append(&mut self, stamp: u64, bytes: &[u8]) -> Result<(), DiskError>
+        requires { IsSome ((history_of self.old).now.standing stamp) }
+        ensures changes { Changes (history_of self.old) (history_of self.new) result (length bytes.now) (λ n. after_append stamp (take n bytes.now)) }
+        ensures cause { DiskHasCause (failures_of self.old) (failures_of self.new) result }
+        ensures fails { FailsAsPlanned (planned Call.Append (plan_of self.old)) (history_of self.old) (history_of self.new) result (length bytes.now) (λ n. after_append stamp (take n bytes.now)) }
+        ensures counted { IsCounted Call.Append self.old self.new result }
+    {
+        let fault = self.plan.next(Call::Append);
+        if fault == Some(0) {
+            return Err(one_failure(&mut self.failed_calls));
+        }
+        let part = part_of(fault, bytes.len() as u64);
+        self.recording.append(stamp, &bytes[..part as usize])?;
+        answer(fault, &mut self.failed_calls)
     }
 
-    fn sync(&mut self, stamp: u64) -> Result<(), DiskError> {
+    fn sync(&mut self, stamp: u64) -> Result<(), DiskError>
+        requires { IsSome ((history_of self.old).now.standing stamp) }
+        ensures changes { Changes (history_of self.old) (history_of self.new) result (length (bytes_at stamp (history_of self.old).now)) (after_sync stamp) }
+        ensures cause { DiskHasCause (failures_of self.old) (failures_of self.new) result }
+        ensures fails { FailsAsPlanned (planned Call.Sync (plan_of self.old)) (history_of self.old) (history_of self.new) result (length (bytes_at stamp (history_of self.old).now)) (after_sync stamp) }
+        ensures counted { IsCounted Call.Sync self.old self.new result }
+    {
+        let fault = self.plan.next(Call::Sync);
+        if fault == Some(0) {
+            return Err(one_failure(&mut self.failed_calls));
+        }
         let length = self.recording.bytes(stamp).len() as u64;
-        self.recording.sync(stamp, length)?;
-        Ok(())
+        self.recording.sync(stamp, part_of(fault, length))?;
+        answer(fault, &mut self.failed_calls)
     }
 
-    fn remove(&mut self, stamp: u64) -> Result<(), DiskError> {
+    fn remove(&mut self, stamp: u64) -> Result<(), DiskError>
+        requires { IsSome ((history_of self.old).now.standing stamp) }
+        ensures changes { Changes (history_of self.old) (history_of self.new) result 0 (λ _. after_remove stamp) }
+        ensures cause { DiskHasCause (failures_of self.old) (failures_of self.new) result }
+        ensures fails { FailsAsPlanned (planned Call.Remove (plan_of self.old)) (history_of self.old) (history_of self.new) result 0 (λ _. after_remove stamp) }
+        ensures counted { IsCounted Call.Remove self.old self.new result }
+    {
+        let fault = self.plan.next(Call::Remove);
+        if fault == Some(0) {
+            return Err(one_failure(&mut self.failed_calls));
+        }
         self.recording.remove(stamp)?;
-        Ok(())
+        answer(fault, &mut self.failed_calls)
     }
 
-    fn settle(&mut self) -> Result<(), DiskError> {
+    fn settle(&mut self) -> Result<(), DiskError>
+        ensures changes { Changes (history_of self.old) (history_of self.new) result 0 (λ _. after_settle) }
+        ensures cause { DiskHasCause (failures_of self.old) (failures_of self.new) result }
+        ensures fails { FailsAsPlanned (planned Call.Settle (plan_of self.old)) (history_of self.old) (history_of self.new) result 0 (λ _. after_settle) }
+        ensures counted { IsCounted Call.Settle self.old self.new result }
+    {
+        let fault = self.plan.next(Call::Settle);
+        if fault == Some(0) {
+            return Err(one_failure(&mut self.failed_calls));
+        }
         self.recording.settle()?;
-        Ok(())
+        answer(fault, &mut self.failed_calls)
     }
 
-    fn tell(&mut self, n: u64) -> Result<(), DiskError> {
+    /// No failure is planned for it.
+    fn tell(&mut self, n: u64) -> Result<(), DiskError>
+        ensures changes { Changes (history_of self.old) (history_of self.new) result 0 (λ _. after_tell n) }
+        ensures memory_alone { IsErrOf result Failed → ⊥ }
+        ensures cause { DiskHasCause (failures_of self.old) (failures_of self.new) result }
+        ensures failures { failures_of self.new ≡ failures_of self.old }
+        ensures plan { plan_of self.new ≡ plan_of self.old }
+    {
         self.recording.tell(n)?;
         Ok(())
     }
