@@ -5,10 +5,10 @@ use Rattle.std.proofs.lemmas.List.{take_all, drop_all, append-nil, length-append
 use Rattle.std.specs.List.{list_any}
 use Rattle.session_disk.specs.declared.disk_file.DiskFile.{DiskFile}
 use Rattle.session_disk.specs.Moments.{Standing, with_file, settled_file, IsBelow, IsNewest, IsNewestBelow}
-use Rattle.session_disk.specs.DiskFiles.{standing_of, standing_in, settle_file, all_above, is_listed, place_of, end_of, unsettled_stamps}
+use Rattle.session_disk.specs.DiskFiles.{standing_of, standing_in, settle_file, all_above, is_bounded, is_listed, place_of, end_of, unsettled_stamps}
 
 -- a bound below all stamps, for what stands, for a lower bound and at an index
-stands_above : (bound : ℕ) (files : List DiskFile) (stamp : ℕ) → all_above bound files ≡ true → IsSome (standing_in files stamp) → bound < stamp
+pub stands_above : (bound : ℕ) (files : List DiskFile) (stamp : ℕ) → all_above bound files ≡ true → IsSome (standing_in files stamp) → bound < stamp
 stands_above bound [] stamp a s = grind arith
 stands_above bound (file ∷ files) stamp a s = grind (arith, nat_tests, stands_above bound files stamp)
 
@@ -175,6 +175,11 @@ module _ (files : List DiskFile) (i : ℕ) (stamp : ℕ) (x : DiskFile) (listed 
 
   pub found_bytes : length x.bytes ≤ 2 ^ 62
   found_bytes = rw (sym is) at (listed_at files i x listed within).1
+
+  pub found_bounded : is_bounded x ≡ true
+  found_bounded =
+      let here = rw (sym is) at (listed_at files i x listed within) in
+      grind (arith, nat_tests)
 
   pub change_is_listed : (file : DiskFile) → file.stamp ≡ x.stamp → length file.bytes ≤ 2 ^ 62 → is_listed (set files i file) ≡ true
   change_is_listed file same fits = is_listed-set files i file x listed within (found x ∙ sym (same ∙ found_stamp)) fits

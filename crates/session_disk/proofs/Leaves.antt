@@ -17,7 +17,7 @@ pub Leaves-after : (P : ℕ → Image → Type 0) (old : History) (step : Moment
 Leaves-after P old step entry next = record { since = step old.now ∷ []; grew = refl; entry = entry; each = (next, tt) }
 
 -- what holds of each of two lists holds of each of their join
-AllByRecursion-append : {X : Type 0} (P : X → Type 0) (xs ys : List X) → AllByRecursion P xs → AllByRecursion P ys → AllByRecursion P (xs ++ ys)
+pub AllByRecursion-append : {X : Type 0} (P : X → Type 0) (xs ys : List X) → AllByRecursion P xs → AllByRecursion P ys → AllByRecursion P (xs ++ ys)
 AllByRecursion-append P [] ys p q = q
 AllByRecursion-append P (x ∷ xs) ys p q = (p.0, AllByRecursion-append P xs ys p.1 q)
 

@@ -1,5 +1,8 @@
 pub mod Leaves
 pub mod Resting
-mod DiskFiles
 mod ChangeLog
+mod CrashLoop
+mod DiskFiles
+mod Finding
+mod Meaning
 mod Prefixes

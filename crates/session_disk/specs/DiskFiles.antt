@@ -1,6 +1,7 @@
 -- The files of a disk in memory, as a list by rising stamp, and what they stand for.
 use Rattle.std.specs.Prelude.{ℕ, suc, ◌^◌, nat_lt, nat_le, Bool, true, ◌&&◌, if◌then◌else◌, ◌==◌, List, [], ◌∷◌, length, Option, Some, None}
 use Rattle.session_disk.specs.declared.disk_file.DiskFile.{DiskFile}
+use Rattle.session_disk.specs.Crashes.{Remains}
 use Rattle.session_disk.specs.Moments.{Standing, Removed}
 
 abbrev pub standing_of : DiskFile → Standing
@@ -8,6 +9,9 @@ standing_of file = record { bytes = file.bytes; synced = file.synced; settled = 
 
 abbrev pub removed_of : DiskFile → Removed
 removed_of file = record { stamp = file.stamp; bytes = file.bytes; synced = file.synced }
+
+abbrev pub remains_of : DiskFile → Remains
+remains_of file = record { bytes = file.bytes; synced = file.synced }
 
 abbrev pub settle_file : DiskFile → DiskFile
 settle_file file = record file { settled = true }
@@ -21,6 +25,10 @@ standing_in (file ∷ files) stamp = if stamp == file.stamp then Some (standing_
 abbrev pub all_above : ℕ → List DiskFile → Bool
 all_above bound [] = true
 all_above bound (file ∷ files) = nat_lt bound file.stamp && all_above bound files
+
+-- its stamp is below 2^63, and it is no longer than 2^62 bytes
+abbrev pub is_bounded : DiskFile → Bool
+is_bounded file = nat_lt file.stamp (2 ^ 63) && nat_le (length file.bytes) (2 ^ 62)
 
 -- stamps rise and are below 2^63, and no file is longer than 2^62
 abbrev pub is_listed : List DiskFile → Bool

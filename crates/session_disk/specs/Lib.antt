@@ -8,5 +8,6 @@ pub mod Histories
 pub mod DiskFiles
 pub mod ChangeLog
 pub mod Recordings
+pub mod Crashes
 pub mod FailurePlans
 pub mod MemoryDisks

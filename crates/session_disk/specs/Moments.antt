@@ -7,6 +7,10 @@ pub record Standing : Type 0 where
   pub synced : ℕ
   pub settled : Bool
 
+-- all of its bytes, and its name, are safe
+abbrev pub safe_file : List ℕ → Standing
+safe_file bytes = record { bytes = bytes; synced = length bytes; settled = true }
+
 -- a file that was removed since names were last settled
 pub record Removed : Type 0 where
   pub stamp : ℕ

@@ -1,9 +1,10 @@
 //! The files of a disk in memory, in a list by rising stamp, and the changes that its calls make to that list.
 //! A look-up scans the list from its front: a disk holds few files.
-ghost use Rattle.std.specs.Prelude.{◌≡◌, ℕ, true, ◌+◌, ◌<◌, ◌≤◌, ◌^◌, [], ◌∷◌, ◌++◌, map, filter, not, length, max, Some, None, option_map, IfOk, OnOk, OnErr, IfSome, IsSome, IsNone, slice_index_or, vec_len, vec_capacity};
+ghost use Rattle.std.specs.Prelude.{◌≡◌, ◌==◌, ℕ, true, ◌+◌, ◌<◌, ◌≤◌, ◌^◌, [], ◌∷◌, ◌++◌, map, filter, not, length, max, Some, None, option_map, option_copied, is_some, IfOk, OnOk, OnErr, IfSome, IsSome, IsNone, slice_index_or, vec_len, vec_capacity};
+ghost use Rattle.std.specs.List.{find};
 ghost use Rattle.session_disk.specs.declared.disk_file.DiskFile.{DiskFile};
-ghost use Rattle.session_disk.specs.Moments.{Standing, with_file, settled_file, IsNewestBelow};
-ghost use Rattle.session_disk.specs.DiskFiles.{standing_of, standing_in, is_listed, place_of, end_of, unsettled_stamps};
+ghost use Rattle.session_disk.specs.Moments.{Standing, with_file, safe_file, settled_file, IsNewestBelow};
+ghost use Rattle.session_disk.specs.DiskFiles.{standing_of, standing_in, is_bounded, is_listed, place_of, end_of, unsettled_stamps};
 
 use std::alloc::{AllocError, Global};
 use std::marker::Model;
@@ -95,6 +96,30 @@ pub(crate) fn insert(files: &mut Vec<DiskFile>, file: DiskFile) -> Result<(), Al
     Ok(())
 }
 
+/// Adds a file whose bytes and name are safe.
+pub(crate) fn insert_safe(files: &mut Vec<DiskFile>, stamp: u64, bytes: &[u8]) -> Result<(), AllocError>
+    requires listed { is_listed files.old.items ≡ true }
+    requires stamp { stamp < 2 ^ 63 }
+    requires bytes { length bytes.now ≤ 2 ^ 62 }
+    requires absent { IsNone (standing_in files.old.items stamp) }
+    ensures listed { is_listed files.new.items ≡ true }
+    ensures ok { OnOk result
+        (standing_in files.new.items ≡ with_file stamp (Some (safe_file bytes.now)) (standing_in files.old.items)) }
+    ensures err { OnErr result (files.new.items ≡ files.old.items) }
+{
+    let synced = bytes.len() as u64;
+    let bytes = FileBytes::from_slice(*files.allocator(), bytes)?;
+    insert(
+        files,
+        DiskFile {
+            stamp,
+            bytes,
+            synced,
+            settled: true,
+        },
+    )
+}
+
 /// The greatest stamp, of those below the bound where one is given.
 pub(crate) fn newest_below(files: &[DiskFile], below: Option<u64>) -> Option<u64>
     requires listed { is_listed files.now ≡ true }
@@ -117,6 +142,20 @@ fn end_of(files: &[DiskFile], below: Option<u64>) -> usize
         None => files.len(),
         Some(bound) => place_of(files, bound),
     }
+}
+
+/// The file under a stamp, where one stands.
+pub(crate) fn get(files: &[DiskFile], stamp: u64) -> Option<&DiskFile>
+    ensures { option_copied result ≡ find (λ file. file.stamp == stamp) files.now }
+{
+    files.iter().find(|file| file.stamp == stamp)
+}
+
+/// Whether a file stands under a stamp.
+pub(crate) fn has(files: &[DiskFile], stamp: u64) -> bool
+    ensures { result ≡ is_some (standing_in files.now stamp) }
+{
+    get(files, stamp).is_some()
 }
 
 /// The place of a file that stands.
@@ -190,6 +229,7 @@ pub(crate) fn take(files: &mut Vec<DiskFile>, stamp: u64) -> DiskFile
     ensures files { standing_in files.new.items ≡ with_file stamp None (standing_in files.old.items) }
     ensures stamp { result.stamp ≡ stamp }
     ensures taken { standing_in files.old.items stamp ≡ Some (standing_of result) }
+    ensures bounded { is_bounded result ≡ true }
 {
     let place = find_place(files, stamp);
     files.remove(place)

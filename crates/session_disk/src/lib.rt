@@ -4,6 +4,7 @@
 
 mod change_log;
 mod clock;
+mod crash;
 mod disk;
 mod disk_file;
 mod failure;
@@ -18,6 +19,7 @@ mod std_stream;
 mod stream;
 
 pub use clock::{Clock, FixedClock, StdClock};
+pub use crash::Keep;
 pub use disk::SessionDisk;
 pub use disk_file::{DiskFile, FileBytes};
 pub use failure::{DiskError, Failed};

@@ -1,9 +1,11 @@
 //! The files of a disk in memory with a log of each change. The earlier moments follow from the present by
 //! undoing the changes in turn, so that no moment is held twice.
-ghost use Rattle.std.specs.Prelude.{◌≡◌, true, ◌<◌, ◌≤◌, ◌^◌, [], length, IfOk, OnOk, OnErr, IfSome, IsSome, IsNone};
-ghost use Rattle.session_disk.specs.DiskFiles.{is_listed};
+ghost use Rattle.std.specs.Prelude.{◌≡◌, true, ◌<◌, ◌≤◌, ◌^◌, [], length, IfOk, OnOk, OnErr, IfSome, IfNone, IsSome, IsNone};
+ghost use Rattle.std.specs.List.{list_all};
+ghost use Rattle.session_disk.specs.DiskFiles.{is_listed, is_bounded};
 
 use crate::change_log::{Undo, write_down};
+use crate::crash::{self, Keep};
 use crate::disk_file::{self, DiskFile, FileBytes, LONGEST};
 use std::alloc::{AllocError, Global};
 use std::mem;
@@ -17,12 +19,14 @@ pub(crate) struct Recording {
     creates: u64,
     log: Vec<Undo>,
     ghost listed: { is_listed files.items ≡ true },
+    ghost bounded: { list_all is_bounded removed.items ≡ true },
 }
 
 impl Recording {
     ghost use Rattle.session_disk.specs.Moments.{bytes_at, IsNewestBelow, after_create, after_append, after_sync, after_remove, after_settle, after_tell};
     ghost use Rattle.session_disk.specs.Histories.{after};
     ghost use Rattle.session_disk.specs.DiskFiles.{standing_in};
+    ghost use Rattle.session_disk.specs.Crashes.{IsKeepable, image_of, resting};
     ghost use Rattle.session_disk.specs.Recordings.{history_of, empty_moment, with_safe_file};
 
     pub(crate) fn new(alloc: Global) -> Recording
@@ -142,22 +146,38 @@ impl Recording {
         ensures ok { OnOk result (history_of self.new ≡ record { now = with_safe_file stamp bytes.now (history_of self.old).now; past = [] }) }
         ensures err { OnErr result (history_of self.new ≡ history_of self.old) }
     {
-        let synced = bytes.len() as u64;
-        if synced > LONGEST {
+        if bytes.len() as u64 > LONGEST {
             return Err(AllocError);
         }
-        let bytes = FileBytes::from_slice(*self.files.allocator(), bytes)?;
-        disk_file::insert(
-            &mut self.files,
-            DiskFile {
-                stamp,
-                bytes,
-                synced,
-                settled: true,
-            },
-        )?;
+        disk_file::insert_safe(&mut self.files, stamp, bytes)?;
         self.log.clear();
         Ok(())
+    }
+
+    /// A recording of the files that the list keeps, all safe, with no earlier moments.
+    pub(crate) fn crash(&self, keeps: &[Keep]) -> Result<Option<Recording>, AllocError>
+        ensures keepable { IfOk result (λ left. IfSome left (λ _. IsKeepable (history_of self.now).now keeps.now)) }
+        ensures history { IfOk result (λ left. IfSome left (λ kept.
+            history_of kept ≡ record { now = resting (image_of (history_of self.now).now keeps.now); past = [] })) }
+        ensures none { IfOk result (λ left. IfNone left (IsKeepable (history_of self.now).now keeps.now → ⊥)) }
+    {
+        let alloc = *self.files.allocator();
+        let left = crash::files_left(
+            alloc,
+            self.files.as_slice(),
+            self.removed.as_slice(),
+            keeps,
+        )?;
+        match left {
+            None => Ok(None),
+            Some(files) => Ok(Some(Recording {
+                files,
+                removed: Vec::new(alloc),
+                told: 0,
+                creates: 0,
+                log: Vec::new(alloc),
+            })),
+        }
     }
 
     pub(crate) fn tell(&mut self, n: u64) -> Result<(), AllocError>

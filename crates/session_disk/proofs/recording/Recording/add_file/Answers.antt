@@ -3,6 +3,4 @@ use Rattle.session_disk.proofs.recording.Recording.add_file.Goals as goal
 
 pub returns-clause-ok : goal.returns-clause-ok
 unfolding past_of
-returns-clause-ok c =
-    let stands = rw c.in_ok-bytes.ensures at c.in_ok-insert.ensures.ok in
-    rw (c.clear.ensures.items, stands)
+returns-clause-ok c = rw (c.clear.ensures.items, c.in_ok-insert_safe.ensures.ok)
