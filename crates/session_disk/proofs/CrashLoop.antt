@@ -29,11 +29,11 @@ IsOnce-front : (xs ys : List Keep) (keep : Keep) → IsOnce (xs ++ keep ∷ ys) 
 IsOnce-front [] ys keep once = refl
 IsOnce-front (x ∷ xs) ys keep once = grind (arith, nat_tests, kept_under-append x.stamp xs (keep ∷ ys), IsOnce-front xs ys keep once.1)
 
-abbrev IsCuttable : Moment → Keep → Type 0
+abbrev pub IsCuttable : Moment → Keep → Type 0
 IsCuttable m keep = IsSome (cut_to keep.bytes (file_meant m keep.stamp))
 
 -- a stamp that the list keeps has a cut
-kept_cut : (m : Moment) (keeps : List Keep) (stamp kept : ℕ) → AllByRecursion (IsCuttable m) keeps → kept_under stamp keeps ≡ Some kept → IsSome (cut_to kept (file_meant m stamp))
+pub kept_cut : (m : Moment) (keeps : List Keep) (stamp kept : ℕ) → AllByRecursion (IsCuttable m) keeps → kept_under stamp keeps ≡ Some kept → IsSome (cut_to kept (file_meant m stamp))
 kept_cut m [] stamp kept cuts e = cc
 kept_cut m (keep ∷ keeps) stamp kept cuts e = here_or_later (stamp == keep.stamp) refl (kept_cut m keeps stamp kept cuts.1)
   where
@@ -54,17 +54,22 @@ pub record Laid (m : Moment) (front : List Keep) (left : List DiskFile) : Type 0
 pub Laid-none : (m : Moment) → Laid m [] []
 Laid-none m = record { listed = refl; stands = refl; once = tt; cuts = tt }
 
+pub is_some-option_map : {X Y : Type 0} (f : X → Y) (o : Option X) → is_some (option_map f o) ≡ is_some o
+is_some-option_map f None = refl
+is_some-option_map f (Some x) = refl
+
+-- the image has just the stamps that the list keeps
+pub image_kept : (m : Moment) (keeps : List Keep) (stamp : ℕ) → AllByRecursion (IsCuttable m) keeps → is_some (image_of m keeps stamp) ≡ is_some (kept_under stamp keeps)
+image_kept m keeps stamp cuts = kept (kept_under stamp keeps) refl
+  where
+    kept : (o : Option ℕ) → kept_under stamp keeps ≡ o → is_some (image_of m keeps stamp) ≡ is_some o
+    kept None e = rw e
+    kept (Some n) e = rw e (kept_cut m keeps stamp n cuts e)
+
 -- what stands among the files that are laid is what the front of the list keeps
 pub laid_kept : (m : Moment) (front : List Keep) (left : List DiskFile) (stamp : ℕ) → Laid m front left → is_some (standing_in left stamp) ≡ is_some (kept_under stamp front)
-laid_kept m front left stamp laid = ap (λ (standing : ℕ → Option Standing). is_some (standing stamp)) laid.stands ∙ kept (kept_under stamp front) refl
-  where
-    mapped : (o : Option (List ℕ)) → IsSome o → is_some (option_map safe_file o) ≡ true
-    mapped None h = h
-    mapped (Some bytes) h = refl
-
-    kept : (o : Option ℕ) → kept_under stamp front ≡ o → is_some (option_map safe_file (image_of m front stamp)) ≡ is_some o
-    kept None e = rw e
-    kept (Some n) e = rw e (mapped (cut_to n (file_meant m stamp)) (kept_cut m front stamp n laid.cuts e))
+laid_kept m front left stamp laid =
+    ap (λ (standing : ℕ → Option Standing). is_some (standing stamp)) laid.stands ∙ is_some-option_map safe_file (image_of m front stamp) ∙ image_kept m front stamp laid.cuts
 
 -- one more file
 module _ (m : Moment) (front : List Keep) (left : List DiskFile) (laid : Laid m front left) (keep : Keep) (bytes : List ℕ) (fresh : kept_under keep.stamp front ≡ None) (cut : cut_to keep.bytes (file_meant m keep.stamp) ≡ Some bytes) where

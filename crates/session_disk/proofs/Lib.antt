@@ -1,3 +1,4 @@
+pub mod Crashes
 pub mod Leaves
 pub mod Resting
 mod ChangeLog

@@ -1,13 +1,16 @@
 //! A disk in memory, which tells its files and all its earlier moments.
-ghost use Rattle.std.specs.Prelude.{◌≡◌, false, true, ◌<◌, ◌≤◌, ◌^◌, [], length, take, IfOk, OnOk, OnErr, IsOk, IsErrOf, IfSome, IsSome, IsNone};
+ghost use Rattle.std.specs.Prelude.{◌≡◌, false, true, ◌<◌, ◌≤◌, ◌^◌, [], length, take, IfOk, OnOk, OnErr, IsOk, IsErrOf, IfSome, IfNone, IsSome, IsNone};
 ghost use Rattle.session_disk.specs.declared.failure.DiskError.TheVariants.{Failed};
 ghost use Rattle.session_disk.specs.Causes.{DiskHasCause};
+ghost use Rattle.session_disk.specs.Crashes.{IsKeepable, image_of, resting};
 ghost use Rattle.session_disk.specs.DiskFiles.{is_listed, standing_in};
 ghost use Rattle.session_disk.specs.FailurePlans.{no_failures, planned, FailsAsPlanned};
 ghost use Rattle.session_disk.specs.Histories.{Changes};
+ghost use Rattle.session_disk.specs.Images.{IsImage};
 ghost use Rattle.session_disk.specs.Moments.{IsAtRest, IsNewestBelow, IsReadAt, after_create, after_append, after_sync, after_remove, after_settle, after_tell, bytes_at};
 ghost use Rattle.session_disk.specs.Recordings.{empty_moment, with_safe_file};
 
+use crate::crash::Keep;
 use crate::disk::SessionDisk;
 use crate::disk_file::DiskFile;
 use crate::failure::DiskError;
@@ -69,6 +72,37 @@ impl MemoryDisk {
         ensures failures { failures_of self.new ≡ failures_of self.old }
     {
         self.plan.replace(plan)
+    }
+
+    /// The disk that a crash now leaves, where it leaves just these files with these lengths: all is safe, nothing
+    /// was told, made or refused, and no failure is planned. A stamp means the file that stands, and where none
+    /// does, the one that was removed last. It takes time in the bytes that are left, and in the number of files
+    /// for each entry of the list.
+    ///
+    /// None where a crash can't leave just these: a stamp comes twice or means no file, a length is below what is
+    /// synced or beyond the file's end, or a file whose name is settled is left out.
+    pub fn crash(&self, keeps: &[Keep]) -> Result<Option<MemoryDisk>, AllocError>
+        ensures keepable { IfOk result (λ left. IfSome left (λ _. IsKeepable (history_of self.now).now keeps.now)) }
+        ensures image { IfOk result (λ left. IfSome left (λ _.
+            IsImage (history_of self.now).now (image_of (history_of self.now).now keeps.now))) }
+        ensures history { IfOk result (λ left. IfSome left (λ disk.
+            history_of disk ≡ record { now = resting (image_of (history_of self.now).now keeps.now); past = [] })) }
+        ensures at_rest { IfOk result (λ left. IfSome left (λ disk. IsAtRest (history_of disk).now)) }
+        ensures failures { IfOk result (λ left. IfSome left (λ disk. failures_of disk ≡ 0)) }
+        ensures plan { IfOk result (λ left. IfSome left (λ disk. plan_of disk ≡ no_failures)) }
+        ensures none { IfOk result (λ left. IfNone left (IsKeepable (history_of self.now).now keeps.now → ⊥)) }
+    {
+        match self.recording.crash(keeps)? {
+            None => Ok(None),
+            Some(recording) => {
+                let plan = FailurePlan::none(recording.allocator());
+                Ok(Some(MemoryDisk {
+                    recording,
+                    plan,
+                    failed_calls: 0,
+                }))
+            }
+        }
     }
 
     /// The files that stand, by rising stamp.

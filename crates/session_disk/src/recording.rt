@@ -41,6 +41,10 @@ impl Recording {
         }
     }
 
+    pub(crate) fn allocator(&self) -> Global {
+        *self.files.allocator()
+    }
+
     pub(crate) fn files(&self) -> &[DiskFile]
         ensures listed { is_listed result.now ≡ true }
         ensures standing { (history_of self.now).now.standing ≡ standing_in result.now }
@@ -161,7 +165,7 @@ impl Recording {
             history_of kept ≡ record { now = resting (image_of (history_of self.now).now keeps.now); past = [] })) }
         ensures none { IfOk result (λ left. IfNone left (IsKeepable (history_of self.now).now keeps.now → ⊥)) }
     {
-        let alloc = *self.files.allocator();
+        let alloc = self.allocator();
         let left = crash::files_left(
             alloc,
             self.files.as_slice(),
