@@ -1,6 +1,6 @@
 -- Laws of the images that a list of files and lengths names: where the list is keepable, its image is one of the
 -- moment; and a list that has just the files of an image, cut from those that its stamps mean, is keepable.
-use Rattle.std.proofs.Common.{◌≡◌, ℕ, ◌≤◌, nat_le, Bool, true, false, ◌&&◌, ◌==◌, List, [], ◌∷◌, length, take, min, reverse, Option, Some, None, IsSome, option_map, refl, sym, ap, ◌∙◌, subst, inl, inr, arith}
+use Rattle.std.proofs.Common.{◌≡◌, ℕ, ◌≤◌, nat_le, Bool, true, false, ◌&&◌, ◌==◌, List, [], ◌∷◌, length, take, min, reverse, Option, Some, None, IsSome, option_map, Contains, refl, sym, ap, ◌∙◌, subst, inl, inr, arith}
 use Rattle.std.proofs.lemmas.Bool.Decides.{nat_tests}
 use Rattle.std.proofs.lemmas.List.{length-take}
 use Rattle.std.specs.List.{AllByRecursion}
@@ -143,6 +143,18 @@ module _ (m : Moment) (keeps : List Keep) (image : Image) (meant : IsOfMeant m i
           let unsettled = subst MayGo stands may_go in
           cc
       stays stamp file stands settled (Some bytes) may = refl
+
+-- A list that isn't keepable has the files of no such image.
+pub no_image : (m : Moment) (keeps : List Keep) → (IsKeepable m keeps → ⊥) → (image : Image) → IsImage m image → IsOfMeant m image → Lists keeps image → ⊥
+no_image m keeps never image is meant lists = never (listed_keepable m keeps image meant lists is)
+
+-- Where each removed file is the one that its stamp means, as where no stamp has two files, each image is of those.
+pub image_meant : (m : Moment) (image : Image) → ((file : Removed) → Contains m.removed file → file_meant m file.stamp ≡ Some (remains_of_removed file)) → IsImage m image → IsOfMeant m image
+image_meant m image alone is stamp bytes e = of_either (subst (MayLeave m stamp) e (is stamp))
+  where
+    of_either : MayLeave m stamp (Some bytes) → (file : Remains) × (file_meant m stamp ≡ Some file) × IsCut file.synced file.bytes bytes
+    of_either (inl (file, stands, cut)) = (remains_of_standing file, rw stands, cut)
+    of_either (inr (file, there, same, cut, may_go)) = (remains_of_removed file, subst (λ s. file_meant m s ≡ Some (remains_of_removed file)) same (alone file there), cut)
 
 -- the disk that is left reads as the image, and is at rest
 pub resting_rests : (image : Image) → IsAtRest (resting image)

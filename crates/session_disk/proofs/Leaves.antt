@@ -1,12 +1,13 @@
 -- Laws of the crash clause `Leaves`, for code that calls a disk several times: it begins at a moment whose
 -- crash leaves only what has P, comes from one call, composes and weakens. A disk at rest has one image.
 use Rattle.std.proofs.Common.{◌≡◌, ℕ, ◌≤◌, List, [], ◌∷◌, ◌++◌, length, Option, Some, None, option_map, Contains, Result, refl, sym, ap, ◌∙◌, subst, inl, inr, append_assoc, arith}
-use Rattle.std.proofs.lemmas.List.{take_all}
+use Rattle.std.proofs.lemmas.List.{take_all, append_cancel_right}
+use Rattle.std.proofs.lemmas.List.Elements.{All-contains, All-contains_itself, All-from_recursion, All-weaker, recursion_from_All, Contains-append_left, Contains-push}
 use Rattle.std.specs.List.{AllByRecursion}
 use Rattle.session_disk.specs.declared.failure.DiskError.{DiskError}
 use Rattle.session_disk.specs.Moments.{Moment, Standing, Removed, IsAtRest}
 use Rattle.session_disk.specs.Images.{Image, IsCut, IsImage, MayGo, MayLeave, OnlyLeaves, as_it_reads}
-use Rattle.session_disk.specs.Histories.{History, moments, after, Changes, Leaves}
+use Rattle.session_disk.specs.Histories.{History, moments, after, Changes, Leaves, IsPairSince}
 
 -- where nothing has changed yet
 pub Leaves-refl : (P : ℕ → Image → Type 0) (old : History) → OnlyLeaves P old.now → Leaves old old P
@@ -51,6 +52,26 @@ Leaves-call {old = old} {step = step} P changes entry next =
       | inl same ↦ subst (λ h. Leaves old h P) (sym same) (Leaves-refl P old entry)
       | inr some ↦ subst (λ h. Leaves old h P) (sym some.2) (Leaves-after P old (step some.0) entry (next some.0 some.1))
     ]
+
+-- Each pair since the entry has P; and where the history grew from the entry on and each pair has P, the clause holds.
+pub Leaves-pair : {P : ℕ → Image → Type 0} {old new : History} (told : ℕ) (image : Image) → Leaves old new P → IsPairSince old new told image → P told image
+Leaves-pair {P} {old} told image p pair =
+    let same = append_cancel_right pair.since p.since (moments old) (sym pair.grew ∙ p.grew) in
+    let each = AllByRecursion-append (OnlyLeaves P) p.since (old.now ∷ []) p.each (p.entry, tt) in
+    let there = subst (λ (since : List Moment). Contains (since ++ old.now ∷ []) pair.moment) same pair.among in
+    let only = All-contains (OnlyLeaves P) (p.since ++ old.now ∷ []) pair.moment (All-from_recursion (OnlyLeaves P) (p.since ++ old.now ∷ []) each) there in
+    subst (λ n. P n image) pair.number (only image pair.left)
+
+pub Leaves-from_pairs : {P : ℕ → Image → Type 0} {old new : History} (since : List Moment) → moments new ≡ since ++ moments old → ((told : ℕ) (image : Image) → IsPairSince old new told image → P told image) → Leaves old new P
+Leaves-from_pairs {P} {old} {new} since grew pairs = record {
+  since = since;
+  grew = grew;
+  entry = at_moment old.now (Contains-push since old.now);
+  each = recursion_from_All (OnlyLeaves P) since (All-weaker (Contains since) (OnlyLeaves P) (λ m there. at_moment m (Contains-append_left since (old.now ∷ []) m there)) since (All-contains_itself since));
+}
+  where
+    at_moment : (m : Moment) → Contains (since ++ old.now ∷ []) m → OnlyLeaves P m
+    at_moment m among image left = pairs m.told image (record { since = since; grew = grew; moment = m; among = among; number = refl; left = left })
 
 -- a cut of what is synced whole is the whole
 whole_cut : (bytes cut : List ℕ) (synced : ℕ) → synced ≡ length bytes → IsCut synced bytes cut → cut ≡ bytes
