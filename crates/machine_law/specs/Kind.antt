@@ -39,7 +39,8 @@ pub record IsLawful {S C : Type 0} (kind : Kind S C) (IsState : S → Type 0) (I
   pub unmarked : (state : S) → IsState state → AllByRecursion (λ command. IsMarker kind command → ⊥) (kind.compaction state)
   -- one command at most has an id and a payload
   pub only : (id : ℕ) (payload : List ℕ) (command other : C) → kind.Payload id command payload → kind.Payload id other payload → other ≡ command
-  -- the marker changes no state
+  -- there is a marker, and it changes no state
+  pub has_marker : (command : C) × IsMarker kind command
   pub marker : (state : S) (command : C) → IsMarker kind command → kind.step state command ≡ state
   -- a command that is covered needn't be there
   pub covered : (state : S) (first second : C) → IsState state → IsCommand first → IsCommand second → kind.covers first second ≡ true
