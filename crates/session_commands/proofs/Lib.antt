@@ -5,3 +5,4 @@ pub mod RowLaws
 pub mod TableLaws
 pub mod WriteLaws
 pub mod PickledLaws
+pub mod MarkerLaws

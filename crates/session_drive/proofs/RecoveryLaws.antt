@@ -14,11 +14,10 @@ use Rattle.snss_frames.specs.declared.header.Version.{Version}
 use Rattle.snss_frames.specs.declared.header.Version.TheVariants.{One, Three}
 use Rattle.snss_frames.proofs.HeaderLaws.{header_of-header, length-header, take-header, drop-header}
 use Rattle.snss_frames.proofs.ReadingLaws.{reading_cut, whole_cut, one_reading}
-use Rattle.session_commands.specs.Faults.{fault_of}
 use Rattle.session_commands.specs.Table.{Payload, id_of, payload_of}
-use Rattle.session_commands.specs.declared.raw.RawCommand.{RawCommand}
 use Rattle.session_commands.specs.declared.command.SessionCommand.{SessionCommand}
 use Rattle.session_commands.specs.declared.command.SessionCommand.TheVariants.{TabWindow, Raw}
+use Rattle.session_commands.proofs.MarkerLaws.{marker_command, marker_payload}
 use Rattle.session_commands.proofs.TableLaws.{reads_back, length-payload}
 use Rattle.session_disk.specs.Images.{Image}
 use Rattle.session_drive.specs.Replay.{start, fold}
@@ -40,15 +39,6 @@ tab_frame command h = absurd h
 tab_frames : (q : List SessionCommand) → AreTabs q → AllByRecursion IsFrame (map frame_of q)
 tab_frames [] h = tt
 tab_frames (c ∷ q) h = (tab_frame c h.0, tab_frames q h.1)
-
--- the marker as a command
-marker_command : RawCommand
-unfolding fault_of
-marker_command = record { id = 255; payload = []; short = omega arith; refused = refl }
-
-marker_payload : Payload 255 (Raw marker_command) []
-unfolding marker_command
-marker_payload = (refl, refl)
 
 tab_payload : (c : SessionCommand) → IsTab c → Payload (id_of c) c (payload_of c)
 tab_payload (TabWindow window tab) h = reads_back (TabWindow window tab) (h.0, (h.1, tt)) tt
