@@ -9,18 +9,18 @@ use window_state::{TabInfo, WindowInfo};
 
 pub(crate) fn push_of_window(
     alloc: Global,
-    info: &WindowInfo,
+    window: &WindowInfo,
     out: &mut Vec<SessionCommand>,
 ) -> Result<(), AllocError>
-    ensures { OnOk result (out.new.items ≡ out.old.items ++ map (λ pair. WindowExtra info.now.id pair.0 pair.1 []) info.now.extra) }
+    ensures { OnOk result (out.new.items ≡ out.old.items ++ map (λ pair. WindowExtra window.now.id pair.0 pair.1 []) window.now.extra) }
 {
-    for place in 0..info.extra.len() {
-        let (key, value) = info.extra.at(place);
+    for place in 0..window.extra.len() {
+        let (key, value) = window.extra.at(place);
         let key = key.copy()?;
         let value = value.copy()?;
         let tail = Blob::from_slice(alloc, &[])?;
         out.push(SessionCommand::WindowExtra {
-            window: info.id,
+            window: window.id,
             key,
             value,
             tail,
@@ -31,18 +31,18 @@ pub(crate) fn push_of_window(
 
 pub(crate) fn push_of_tab(
     alloc: Global,
-    info: &TabInfo,
+    tab: &TabInfo,
     out: &mut Vec<SessionCommand>,
 ) -> Result<(), AllocError>
-    ensures { OnOk result (out.new.items ≡ out.old.items ++ map (λ pair. TabExtra info.now.id pair.0 pair.1 []) info.now.extra) }
+    ensures { OnOk result (out.new.items ≡ out.old.items ++ map (λ pair. TabExtra tab.now.id pair.0 pair.1 []) tab.now.extra) }
 {
-    for place in 0..info.extra.len() {
-        let (key, value) = info.extra.at(place);
+    for place in 0..tab.extra.len() {
+        let (key, value) = tab.extra.at(place);
         let key = key.copy()?;
         let value = value.copy()?;
         let tail = Blob::from_slice(alloc, &[])?;
         out.push(SessionCommand::TabExtra {
-            tab: info.id,
+            tab: tab.id,
             key,
             value,
             tail,

@@ -3,4 +3,4 @@ use Rattle.session_commands.specs.declared.command.SessionCommand.TheVariants.{T
 use Rattle.compactor.proofs.pairs.push_of_tab.Given as goal
 
 abbrev pub invariant-loop-place : goal.invariant-loop-place
-invariant-loop-place l = l.out.items ≡ l.fn.out.items ++ map (λ pair. TabExtra l.info.id pair.0 pair.1 []) (take l.place l.info.extra)
+invariant-loop-place l = l.out.items ≡ l.fn.out.items ++ map (λ pair. TabExtra l.tab.id pair.0 pair.1 []) (take l.place l.tab.extra)

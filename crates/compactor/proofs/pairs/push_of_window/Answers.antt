@@ -7,7 +7,7 @@ use Rattle.compactor.proofs.pairs.push_of_window.Goals as goal
 
 pub loop-place-preserved : goal.loop-place-preserved
 loop-place-preserved c =
-    let info = c.args.info.now in
-    let id : FitsSigned w32 info.id = search rules in
-    let pushed = rw (to_z-of_z w32 info.id id, c.in_ok-key.ensures, c.in_ok-value.ensures, c.in_ok-tail.ensures) at c.in_ok-push.ensures.items in
-    more-map (λ pair. WindowExtra info.id pair.0 pair.1 []) info.extra c.loop-place.place _ _ _ _ c.at.ensures c.loop-place.invariant pushed
+    let window = c.args.window.now in
+    let id : FitsSigned w32 window.id = search rules in
+    let pushed = rw (to_z-of_z w32 window.id id, c.in_ok-key.ensures, c.in_ok-value.ensures, c.in_ok-tail.ensures) at c.in_ok-push.ensures.items in
+    more-map (λ pair. WindowExtra window.id pair.0 pair.1 []) window.extra c.loop-place.place _ _ _ _ c.at.ensures c.loop-place.invariant pushed

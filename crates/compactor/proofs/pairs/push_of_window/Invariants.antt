@@ -3,4 +3,4 @@ use Rattle.session_commands.specs.declared.command.SessionCommand.TheVariants.{W
 use Rattle.compactor.proofs.pairs.push_of_window.Given as goal
 
 abbrev pub invariant-loop-place : goal.invariant-loop-place
-invariant-loop-place l = l.out.items ≡ l.fn.out.items ++ map (λ pair. WindowExtra l.info.id pair.0 pair.1 []) (take l.place l.info.extra)
+invariant-loop-place l = l.out.items ≡ l.fn.out.items ++ map (λ pair. WindowExtra l.window.id pair.0 pair.1 []) (take l.place l.window.extra)
