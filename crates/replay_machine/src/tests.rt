@@ -2,7 +2,7 @@ use super::*;
 use session_commands::SessionCommand;
 use std::alloc::Global;
 use std::test::Fail;
-use window_state::SessionState;
+use window_state::{SessionState, view};
 
 // A page at http://a/ titled Hi with three bytes of page state, as the first page of tab 2.
 const PAGE: [u8; 92] = [
@@ -13,6 +13,27 @@ const PAGE: [u8; 92] = [
 ];
 
 const IN_WINDOW: [u8; 8] = [1, 0, 0, 0, 2, 0, 0, 0];
+
+// A group with the numbers 1 and 2, titled G.
+const GROUP: [u8; 32] = [
+    0x1C, 0, 0, 0, 1, 0, 0, 0, 0, 0, 0, 0, 2, 0, 0, 0, 0, 0, 0, 0, 1, 0, 0, 0, 0x47, 0, 0, 0, 5, 0,
+    0, 0,
+];
+
+// The same page as the first one of another tab.
+fn page_of(tab: u8) -> [u8; 92] {
+    let mut page = PAGE;
+    page[4] = tab;
+    page
+}
+
+// A tab goes into the group of the numbers 1 and 2.
+fn grouped(tab: u8) -> [u8; 32] {
+    [
+        tab, 0, 0, 0, 0, 0, 0, 0, 1, 0, 0, 0, 0, 0, 0, 0, 2, 0, 0, 0, 0, 0, 0, 0, 1, 0, 0, 0, 0, 0,
+        0, 0,
+    ]
+}
 
 fn replayed(alloc: Global, commands: &[(u8, &[u8])]) -> Result<SessionState, Fail> {
     let mut state = SessionState::start(alloc)?;
@@ -42,6 +63,8 @@ fn a_tab_named_after_its_window_closed_is_new(rt: HostRuntime) -> Result<(), Fai
     assert_eq!(rt; (state.windows().len(), state.tabs().len()), (0, 1));
     let tab = state.tabs().get(2).ok_or("no tab")?;
     assert_eq!(rt; (tab.window, tab.index, tab.pages.len()), (None, 3, 0));
+    let seen = view(rt.alloc(), &state)?;
+    assert_eq!(rt; (seen.windows.as_slice().len(), seen.active), (0, None));
     Ok(())
 }
 
@@ -69,5 +92,50 @@ fn texts_and_values_are_kept(rt: HostRuntime) -> Result<(), Fail> {
     let window = state.windows().get(1).ok_or("no window")?;
     assert_eq!(rt; window.info.extra.len(), 1);
     assert_eq!(rt; state.active(), Some(1));
+    Ok(())
+}
+
+#[test]
+fn a_tab_without_pages_is_not_shown(rt: HostRuntime) -> Result<(), Fail> {
+    let state = replayed(
+        rt.alloc(),
+        &[
+            (0, [1, 0, 0, 0, 5, 0, 0, 0].as_slice()),
+            (0, [1, 0, 0, 0, 6, 0, 0, 0].as_slice()),
+            (6, page_of(5).as_slice()),
+        ],
+    )?;
+    let seen = view(rt.alloc(), &state)?.copy()?;
+    assert_eq!(rt; (seen.windows.as_slice().len(), seen.active), (1, Some(1)));
+    let window = seen.windows.as_slice().first().ok_or("no window")?;
+    let tabs = window.tabs.as_slice();
+    assert_eq!(rt; (window.info.id, window.selected, tabs.len()), (1, 0, 1));
+    let tab = tabs.first().ok_or("no tab")?;
+    assert_eq!(rt; (tab.info.id, tab.current, tab.pages.as_slice().len()), (5, 0, 1));
+    Ok(())
+}
+
+#[test]
+fn a_group_without_shown_tabs_is_not_shown(rt: HostRuntime) -> Result<(), Fail> {
+    let mut other = GROUP;
+    other[12] = 3;
+    let state = replayed(
+        rt.alloc(),
+        &[
+            (0, [1, 0, 0, 0, 5, 0, 0, 0].as_slice()),
+            (0, [1, 0, 0, 0, 6, 0, 0, 0].as_slice()),
+            (6, page_of(5).as_slice()),
+            (6, page_of(6).as_slice()),
+            (25, grouped(6).as_slice()),
+            (25, grouped(5).as_slice()),
+            (27, GROUP.as_slice()),
+            (27, other.as_slice()),
+        ],
+    )?;
+    assert_eq!(rt; state.groups().len(), 2);
+    let seen = view(rt.alloc(), &state)?;
+    assert_eq!(rt; seen.groups.as_slice().len(), 1);
+    let group = seen.groups.as_slice().first().ok_or("no group")?;
+    assert_eq!(rt; (group.high, group.low), (1, 2));
     Ok(())
 }

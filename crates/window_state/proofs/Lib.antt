@@ -6,5 +6,9 @@ pub mod ChangeLaws
 pub mod StateLaws
 pub mod PairLaws
 pub mod MemberLaws
+pub mod PositionLaws
+pub mod ShownLaws
+pub mod WindowRange
+pub mod ViewLaws
 mod WorkedPrunings
 mod WorkedViews

@@ -9,4 +9,5 @@ pub mod Fits
 pub mod States
 pub mod Members
 pub mod Views
+pub mod Shown
 pub use Rattle.pickle_cells.specs.Cell

@@ -1,6 +1,7 @@
 -- What a user sees of a state: the tabs that have a window and a page, sorted by their places, and the windows that
 -- have such a tab.
-use Rattle.std.specs.Prelude.{ℕ, zero, suc, ◌==◌, ℤ, int_le, Bool, true, false, ◌&&◌, if◌then◌else◌, List, [], ◌∷◌, map, filter, Option, Some, None}
+use Rattle.std.specs.Prelude.{ℕ, ◌-◌, ◌==◌, ℤ, int_le, Bool, true, false, ◌&&◌, if◌then◌else◌, List, [], ◌∷◌, length, map, filter, fold, position, Option, Some, None}
+use Rattle.std.specs.Option.{unwrap_or}
 use Rattle.std.specs.List.{list_any}
 use Rattle.std.specs.Ordering.{int_cmp, int_eq, ordering_then, match_ordering}
 use Rattle.std.specs.declared.cmp.Ordering.{Ordering}
@@ -29,21 +30,20 @@ is_shown_in window t = is_in window t.window && has_page t.pages
 abbrev pub place_cmp : Tab → Tab → Ordering
 place_cmp t u = ordering_then (int_cmp t.index u.index) (int_cmp t.info.id u.info.id)
 
-abbrev pub insert_by_place : Tab → List Tab → List Tab
-insert_by_place t [] = t ∷ []
-insert_by_place t (u ∷ us) = match_ordering (place_cmp t u) (t ∷ u ∷ us) (t ∷ u ∷ us) (u ∷ insert_by_place t us)
+abbrev pub insert_by_place : List Tab → Tab → List Tab
+insert_by_place [] t = t ∷ []
+insert_by_place (u ∷ us) t = match_ordering (place_cmp t u) (t ∷ u ∷ us) (t ∷ u ∷ us) (u ∷ insert_by_place us t)
 
+-- sorted, one put in after another
 abbrev pub by_place : List Tab → List Tab
-by_place [] = []
-by_place (t ∷ ts) = insert_by_place t (by_place ts)
+by_place tabs = fold insert_by_place [] tabs
 
 abbrev pub shown_tabs : ℤ → List Tab → List Tab
 shown_tabs window tabs = by_place (filter (is_shown_in window) tabs)
 
 -- the position of the first index that is at least this, else the last position
 abbrev pub first_from : ℤ → List ℤ → ℕ
-first_from least [] = zero
-first_from least (i ∷ is) = if int_le least i then zero else (if has_page is then suc (first_from least is) else zero)
+first_from least indices = unwrap_or (position (λ i. int_le least i) indices) (length indices - 1)
 
 abbrev pub view_tab : Tab → ViewTab
 view_tab t = record { info = t.info; pages = map (λ page. page.1) t.pages; current = first_from t.current (map (λ page. page.0) t.pages) }
@@ -55,17 +55,21 @@ abbrev pub with_shown : Window → List Tab → List ViewWindow → List ViewWin
 with_shown w [] others = others
 with_shown w (t ∷ ts) others = view_window w (t ∷ ts) ∷ others
 
-abbrev pub view_windows : List Tab → List Window → List ViewWindow
-view_windows tabs [] = []
-view_windows tabs (w ∷ ws) = with_shown w (shown_tabs w.info.id tabs) (view_windows tabs ws)
+-- the windows that have tabs, where each id has these tabs
+abbrev pub view_windows : (ℤ → List Tab) → List Window → List ViewWindow
+view_windows tabs_of [] = []
+view_windows tabs_of (w ∷ ws) = with_shown w (tabs_of w.info.id) (view_windows tabs_of ws)
 
 abbrev pub is_group : GroupId → Option GroupId → Bool
 is_group id None = false
 is_group id (Some own) = (own.high == id.high) && (own.low == id.low)
 
--- a shown tab is in the group
+-- the tab is shown and in the group
+abbrev pub uses : GroupInfo → Tab → Bool
+uses group t = is_shown t.window t && is_group (group_key group) t.info.group
+
 abbrev pub is_used : List Tab → GroupInfo → Bool
-is_used tabs group = list_any (λ t. is_shown t.window t && is_group (group_key group) t.info.group) tabs
+is_used tabs group = list_any (uses group) tabs
 
 abbrev pub least_shown : List ViewWindow → Option ℤ
 least_shown [] = None
@@ -78,5 +82,5 @@ active_shown (Some id) windows = if list_any (λ w. int_eq w.info.id id) windows
 
 abbrev pub view : State → View
 view s =
-    let windows = view_windows s.tabs s.windows in
+    let windows = view_windows (λ id. shown_tabs id s.tabs) s.windows in
     record { windows = windows; groups = filter (is_used s.tabs) s.groups; active = active_shown s.active windows }

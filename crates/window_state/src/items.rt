@@ -1,6 +1,7 @@
 //! Lists of the parts of a view.
 ghost use Rattle.std.specs.Prelude.{◌≡◌};
 
+use std::alloc::Global;
 use std::marker::Model;
 
 /// A list, seen by every contract as its items. None of its calls takes memory.
@@ -40,6 +41,10 @@ impl<T> Items<T> {
         ensures value { result.now.items ≡ self.old }
     {
         &mut self.items
+    }
+
+    pub(crate) fn allocator(&self) -> Global {
+        *self.items.allocator()
     }
 
     pub fn into_vec(self) -> Vec<T>

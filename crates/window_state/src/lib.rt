@@ -11,12 +11,15 @@ mod items;
 mod members;
 mod page_vec;
 mod pages;
+mod position;
 mod rows;
+mod shown;
 mod state;
 mod tab;
 mod tab_rows;
 mod text;
 mod view_parts;
+mod viewing;
 mod window;
 mod window_rows;
 
@@ -29,6 +32,7 @@ pub use rows::{Changing, Row, Rows};
 pub use state::SessionState;
 pub use tab::{Tab, TabInfo};
 pub use view_parts::{View, ViewTab, ViewWindow};
+pub use viewing::view;
 pub use window::{Window, WindowInfo};
 
 #[cfg(test)]

@@ -1,10 +1,12 @@
 //! Pages as they stand in a vector, by rising index.
-ghost use Rattle.std.specs.Prelude.{ℤ, ◌≡◌, ◌≢◌, ◌<◌, ◌≤◌, ◌≤ℤ◌, ◌<ℤ◌, pos, map, filter, not, length, IfOk, OnOk, OnErr, IsTrue, IsFalse, slice_index_or};
+ghost use Rattle.std.specs.Prelude.{ℤ, ◌≡◌, ◌≢◌, ◌<◌, ◌≤◌, ◌≤ℤ◌, ◌<ℤ◌, ◌^◌, pos, int_le, map, filter, position, not, length, IfOk, OnOk, OnErr, IsTrue, IsFalse, slice_index_or};
 ghost use Rattle.std.specs.Ordering.{int_cmp};
 ghost use Rattle.std.specs.BTreeMap.{insert_entry};
 ghost use Rattle.navigation_entry.specs.declared.navigation.Navigation.{Navigation};
 ghost use Rattle.window_state.specs.PageLists.{IsRising, is_pruned, lowered, place_of, prune_back};
+ghost use Rattle.window_state.specs.Views.{first_from};
 
+use crate::position;
 use navigation_entry::Navigation;
 use std::alloc::{AllocError, Global};
 
@@ -17,6 +19,37 @@ pub(crate) fn place_of(pages: &[Page], index: i32) -> usize
     ensures within { result ≤ length pages.now }
 {
     pages.partition_point(|page| page.0 < index)
+}
+
+// How many pages there are: no more than indices.
+fn count(pages: &[Page]) -> usize
+    requires { IsRising (pos 0) pages.now }
+    ensures count { result ≡ length pages.now }
+    ensures small { result ≤ 2 ^ 31 }
+{
+    match pages.last() {
+        // Its index is no less than the number of pages before it.
+        Some(last) => {
+            let _index = last.0;
+            pages.len()
+        }
+        None => 0,
+    }
+}
+
+/// The position of the first page from the index on, else the last one.
+pub(crate) fn first_from(pages: &[Page], index: i32) -> u32
+    requires { IsRising (pos 0) pages.now }
+    ensures { result ≡ first_from index (map (λ page. page.0) pages.now) }
+{
+    position::or_last(find_from(pages, index), count(pages))
+}
+
+// The position of the first page from the index on.
+fn find_from(pages: &[Page], index: i32) -> Option<usize>
+    ensures { result ≡ position (λ page. int_le index page.0) pages.now }
+{
+    pages.iter().position(|page| index <= page.0)
 }
 
 // Whether the page in a place, where there is one, has the index.
@@ -95,6 +128,16 @@ fn lower_all(first: i32, count: i32, pages: &mut [Page])
     for page in pages.iter_mut() {
         lower(first, count, page);
     }
+}
+
+pub(crate) fn navigations(alloc: Global, pages: &[Page]) -> Result<Vec<Navigation>, AllocError>
+    ensures { IfOk result (λ v. v.items ≡ map (λ page. page.1) pages.now) }
+{
+    let mut copied = Vec::with_capacity(alloc, pages.len())?;
+    for page in pages {
+        copied.push(page.1.copy()?)?;
+    }
+    Ok(copied)
 }
 
 pub(crate) fn copy(alloc: Global, pages: &[Page]) -> Result<Vec<Page>, AllocError>

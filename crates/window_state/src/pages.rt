@@ -1,8 +1,9 @@
 //! The pages of a tab.
-ghost use Rattle.std.specs.Prelude.{◌≡◌, ◌<◌, ◌≤ℤ◌, pos, [], length, slice_get, Some, IfOk, OnOk, OnErr};
+ghost use Rattle.std.specs.Prelude.{◌≡◌, ◌<◌, ◌≤ℤ◌, pos, [], length, map, slice_get, Some, IfOk, OnOk, OnErr};
 ghost use Rattle.std.specs.Ordering.{int_cmp};
 ghost use Rattle.std.specs.BTreeMap.{insert_entry};
 ghost use Rattle.window_state.specs.PageLists.{IsRising, prune, prune_back, prune_front};
+ghost use Rattle.window_state.specs.Views.{first_from};
 
 use crate::page_vec;
 use crate::page_vec::Page;
@@ -53,6 +54,20 @@ impl Pages {
     {
         let page = &self.pages[place];
         (page.0, &page.1)
+    }
+
+    /// The position of the first page whose index is at least this, else the last position; 0 where there are none.
+    pub fn first_from(&self, index: i32) -> u32
+        ensures { result ≡ first_from index (map (λ page. page.0) self.now) }
+    {
+        page_vec::first_from(self.pages.as_slice(), index)
+    }
+
+    /// The pages without their indices, in memory of their own.
+    pub fn navigations(&self) -> Result<Vec<Navigation>, AllocError>
+        ensures { IfOk result (λ v. v.items ≡ map (λ page. page.1) self.now) }
+    {
+        page_vec::navigations(*self.pages.allocator(), self.pages.as_slice())
     }
 
     /// The page at the index is replaced, or put in by its index.

@@ -81,25 +81,33 @@ fn a_closed_window_takes_along_the_tabs_that_stand_in_it(rt: HostRuntime) -> Res
     let mut state = SessionState::start(rt.alloc())?;
     state.place_tab(1, 2)?;
     state.place_tab(1, -3)?;
-    state.place_tab(4, 5)?;
     state.place_tab(4, 2)?;
-    state.place_tab(4, -3)?;
-    state.place_tab(1, -3)?;
-    state.change_tab(6, TabChange::Pinned(true))?;
-    state.change_window(4, WindowChange::Kind(7))?;
-    state.set_active(1);
     state.close_window(1);
-    state.close_tab(9);
-    let copy = state.copy()?;
-    assert_eq!(rt; copy.tabs().len(), 3);
-    assert_eq!(rt; copy.windows().len(), 1);
-    assert_eq!(rt; copy.groups().len(), 0);
-    assert_eq!(rt; copy.active(), Some(1));
-    let tab = copy.tabs().get(2).ok_or("no tab")?;
+    assert_eq!(rt; (state.windows().len(), state.tabs().len()), (1, 1));
+    let tab = state.tabs().get(2).ok_or("no tab")?;
     assert_eq!(rt; tab.window, Some(4));
-    let tab = copy.tabs().get(6).ok_or("no tab")?;
+    Ok(())
+}
+
+#[test]
+fn a_tab_that_a_change_names_is_made(rt: HostRuntime) -> Result<(), Fail> {
+    let mut state = SessionState::start(rt.alloc())?;
+    state.change_tab(6, TabChange::Pinned(true))?;
+    let tab = state.tabs().get(6).ok_or("no tab")?;
     assert_eq!(rt; (tab.window, tab.index, tab.current), (None, -1, -1));
     assert!(rt; tab.info.pinned);
+    state.close_tab(6);
+    assert_eq!(rt; state.tabs().len(), 0);
+    Ok(())
+}
+
+#[test]
+fn a_copied_state_has_its_windows_and_its_active_one(rt: HostRuntime) -> Result<(), Fail> {
+    let mut state = SessionState::start(rt.alloc())?;
+    state.change_window(4, WindowChange::Kind(7))?;
+    state.set_active(1);
+    let copy = state.copy()?;
+    assert_eq!(rt; (copy.active(), copy.groups().len()), (Some(1), 0));
     let window = copy.windows().get(4).ok_or("no window")?;
     assert_eq!(rt; (window.info.kind, window.selected), (7, -1));
     Ok(())

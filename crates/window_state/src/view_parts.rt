@@ -61,9 +61,10 @@ pub struct View {
 
 impl View {
     /// The same view, in memory of its own.
-    pub fn copy(&self, alloc: Global) -> Result<View, AllocError>
+    pub fn copy(&self) -> Result<View, AllocError>
         ensures { IfOk result (λ v. v ≡ self.now) }
     {
+        let alloc = self.windows.allocator();
         let windows = copied_windows(alloc, self.windows.as_slice())?;
         let groups = copied_groups(alloc, self.groups.as_slice())?;
         Ok(View {
