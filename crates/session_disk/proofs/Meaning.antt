@@ -1,11 +1,11 @@
 -- The file that a stamp means, found in the lists of a disk in memory.
-use Rattle.std.proofs.Common.{◌≡◌, ℕ, ◌<◌, ◌≤◌, ◌^◌, ◌==◌, true, List, [], ◌∷◌, length, map, reverse, Option, Some, None, option_map, option_copied, Bor, refl, sym, ap, ◌∙◌, arith}
+use Rattle.std.proofs.Common.{◌≡◌, ℕ, ◌==◌, true, List, [], ◌∷◌, map, reverse, Option, Some, None, option_map, option_copied, Bor, refl, sym, ◌∙◌, arith}
 use Rattle.std.proofs.lemmas.Bool.Decides.{nat_tests}
 use Rattle.std.specs.List.{find, list_all}
 use Rattle.std.specs.Option.{is_some}
 use Rattle.session_disk.specs.declared.disk_file.DiskFile.{DiskFile}
 use Rattle.session_disk.specs.ChangeLog.{moment_of}
-use Rattle.session_disk.specs.Crashes.{Remains, remains_of_removed, first_of, file_meant, last_removed}
+use Rattle.session_disk.specs.Crashes.{remains_of_removed, file_meant, last_removed}
 use Rattle.session_disk.specs.DiskFiles.{standing_of, standing_in, removed_of, remains_of, is_bounded, is_listed}
 use Rattle.session_disk.proofs.Finding.{found_passes, found_passes_all, list_all-reverse, map-reverse, find-map}
 

@@ -1,5 +1,5 @@
 -- Which of the coming calls of a disk in memory fail, and after how much of their work.
-use Rattle.std.specs.Prelude.{◌≡◌, ℕ, zero, suc, ◌-◌, min, Bool, true, false, ◌&&◌, ◌||◌, if◌then◌else◌, ◌==◌, List, [], map, Option, Some, None, option_map, Result, Ok, Err, IsOk, IsErrOf}
+use Rattle.std.specs.Prelude.{ℕ, zero, suc, ◌-◌, min, Bool, false, ◌&&◌, ◌||◌, if◌then◌else◌, ◌==◌, List, [], map, Option, Some, None, option_map, Result, Ok, Err}
 use Rattle.std.specs.List.{find}
 use denote.Enum.Bare.{sameb}
 use Rattle.session_disk.specs.contracts.failure_plan.Call.{the_type}
@@ -68,9 +68,3 @@ failures_after (Err Memory) count = count
 abbrev pub after_part : ℕ → ℕ → (ℕ → Moment → Moment) → History → History
 after_part zero all step old = old
 after_part (suc n) all step old = after (step (min (suc n) all)) old
-
--- How a call whose work is counted meets its plan: all its work is done where no failure is planned, and the
--- planned part of it where it fails. It may find no memory in either case.
-pub record FailsAsPlanned {T : Type 0} (fault : Option ℕ) (old new : History) (result : Result T DiskError) (all : ℕ) (step : ℕ → Moment → Moment) : Type 0 where
-  pub ok : IsOk result → fault ≡ None
-  pub failed : IsErrOf result Failed → (done : ℕ) × (fault ≡ Some done) × (new ≡ after_part done all step old)

@@ -1,5 +1,5 @@
 -- What a recording stands for.
-use Rattle.std.specs.Prelude.{ℕ, true, List, [], length, Some, None}
+use Rattle.std.specs.Prelude.{ℕ, List, [], Some, None}
 use Rattle.session_disk.specs.declared.recording.Recording.{Recording}
 use Rattle.session_disk.specs.ChangeLog.{moment_of, history_from}
 use Rattle.session_disk.specs.Histories.{History}

@@ -97,7 +97,11 @@ pub(crate) fn insert(files: &mut Vec<DiskFile>, file: DiskFile) -> Result<(), Al
 }
 
 /// Adds a file whose bytes and name are safe.
-pub(crate) fn insert_safe(files: &mut Vec<DiskFile>, stamp: u64, bytes: &[u8]) -> Result<(), AllocError>
+pub(crate) fn insert_safe(
+    files: &mut Vec<DiskFile>,
+    stamp: u64,
+    bytes: &[u8],
+) -> Result<(), AllocError>
     requires listed { is_listed files.old.items ≡ true }
     requires stamp { stamp < 2 ^ 63 }
     requires bytes { length bytes.now ≤ 2 ^ 62 }

@@ -22,7 +22,7 @@ pub enum Call {
     Settle,
 }
 
-/// A call that is to fail.
+/// A call that is to fail. Of several that are planned for one call, the first counts.
 #[derive(Clone, Copy, Debug, PartialEq, Eq)]
 pub struct Failure {
     pub call: Call,
@@ -35,7 +35,7 @@ pub struct Failure {
     pub lasting: bool,
 }
 
-/// The failures that are to come. Where several are planned for one call, the first of them counts.
+/// The failures that are to come. A call that was made has the number 0 from then on.
 #[derive(Drop)]
 pub(crate) struct FailurePlan {
     coming: Vec<Failure>,
@@ -124,8 +124,8 @@ pub(crate) fn part_of(fault: Option<u64>, all: u64) -> u64
     }
 }
 
-/// One more failure.
-pub(crate) fn one_failure(failures: &mut u64) -> DiskError
+/// Counts a failure.
+pub(crate) fn count_failure(failures: &mut u64) -> DiskError
     ensures value { result ≡ Failed }
     ensures count { failures.new ≡ next_count failures.old }
     ensures later { failures.old ≤ failures.new }
@@ -142,6 +142,6 @@ pub(crate) fn answer(fault: Option<u64>, failures: &mut u64) -> Result<(), DiskE
 {
     match fault {
         None => Ok(()),
-        Some(_) => Err(one_failure(failures)),
+        Some(_) => Err(count_failure(failures)),
     }
 }

@@ -4,7 +4,7 @@ ghost use Rattle.session_disk.specs.declared.failure.DiskError.TheVariants.{Fail
 ghost use Rattle.session_disk.specs.Causes.{DiskHasCause};
 ghost use Rattle.session_disk.specs.Crashes.{IsKeepable, image_of, resting};
 ghost use Rattle.session_disk.specs.DiskFiles.{is_listed, standing_in};
-ghost use Rattle.session_disk.specs.FailurePlans.{no_failures, planned, FailsAsPlanned};
+ghost use Rattle.session_disk.specs.FailurePlans.{no_failures, planned};
 ghost use Rattle.session_disk.specs.Histories.{Changes};
 ghost use Rattle.session_disk.specs.Images.{IsImage};
 ghost use Rattle.session_disk.specs.Moments.{IsAtRest, IsNewestBelow, IsReadAt, after_create, after_append, after_sync, after_remove, after_settle, after_tell, bytes_at};
@@ -14,7 +14,7 @@ use crate::crash::Keep;
 use crate::disk::SessionDisk;
 use crate::disk_file::DiskFile;
 use crate::failure::DiskError;
-use crate::failure_plan::{Call, Failure, FailurePlan, answer, one_failure, part_of};
+use crate::failure_plan::{Call, Failure, FailurePlan, answer, count_failure, part_of};
 use crate::memory_stream::read_from;
 use crate::recording::Recording;
 use std::alloc::{AllocError, Global};
@@ -64,7 +64,8 @@ impl MemoryDisk {
         self.recording.add_file(stamp, bytes)
     }
 
-    /// Plans failures of calls from now on, in place of those that were planned before.
+    /// Plans failures of calls from now on, in place of those that were planned before. A call that finds no memory
+    /// for its work says so, whatever is planned for it. Each call looks through the whole plan.
     pub fn fail(&mut self, plan: &[Failure]) -> Result<(), AllocError>
         ensures ok { OnOk result (plan_of self.new ≡ record { coming = plan.now; broken = false }) }
         ensures err { OnErr result (plan_of self.new ≡ plan_of self.old) }
@@ -115,7 +116,7 @@ impl MemoryDisk {
 }
 
 impl SessionDisk for MemoryDisk {
-    ghost use Rattle.session_disk.specs.MemoryDisks.{history_of, failures_of, plan_of, IsCounted};
+    ghost use Rattle.session_disk.specs.MemoryDisks.{history_of, failures_of, plan_of, FailsAsPlanned, IsCounted};
 
     ghost tells = { Unit {0} };
 
@@ -138,7 +139,7 @@ impl SessionDisk for MemoryDisk {
         ensures counted { IsCounted Call.List self.old self.new result }
     {
         if self.plan.next(Call::List).is_some() {
-            return Err(one_failure(&mut self.failed_calls));
+            return Err(count_failure(&mut self.failed_calls));
         }
         Ok(self.recording.newest_below(below))
     }
@@ -154,7 +155,7 @@ impl SessionDisk for MemoryDisk {
         ensures counted { IsCounted Call.Length self.old self.new result }
     {
         if self.plan.next(Call::Length).is_some() {
-            return Err(one_failure(&mut self.failed_calls));
+            return Err(count_failure(&mut self.failed_calls));
         }
         Ok(self.recording.bytes(stamp).len() as u64)
     }
@@ -170,7 +171,7 @@ impl SessionDisk for MemoryDisk {
         ensures counted { IsCounted Call.Read self.old self.new result }
     {
         if self.plan.next(Call::Read).is_some() {
-            return Err(one_failure(&mut self.failed_calls));
+            return Err(count_failure(&mut self.failed_calls));
         }
         Ok(read_from(self.recording.bytes(stamp), offset, into))
     }
@@ -180,12 +181,12 @@ impl SessionDisk for MemoryDisk {
         requires absent { IsNone ((history_of self.old).now.standing stamp) }
         ensures changes { Changes (history_of self.old) (history_of self.new) result 0 (λ _. after_create stamp) }
         ensures cause { DiskHasCause (failures_of self.old) (failures_of self.new) result }
-        ensures fails { FailsAsPlanned (planned Call.Create (plan_of self.old)) (history_of self.old) (history_of self.new) result 0 (λ _. after_create stamp) }
+        ensures fails { FailsAsPlanned Call.Create self.old self.new result 0 (λ _. after_create stamp) }
         ensures counted { IsCounted Call.Create self.old self.new result }
     {
         let fault = self.plan.next(Call::Create);
         if fault == Some(0) {
-            return Err(one_failure(&mut self.failed_calls));
+            return Err(count_failure(&mut self.failed_calls));
         }
         self.recording.create(stamp)?;
         answer(fault, &mut self.failed_calls)
@@ -195,12 +196,12 @@ impl SessionDisk for MemoryDisk {
         requires { IsSome ((history_of self.old).now.standing stamp) }
         ensures changes { Changes (history_of self.old) (history_of self.new) result (length bytes.now) (λ n. after_append stamp (take n bytes.now)) }
         ensures cause { DiskHasCause (failures_of self.old) (failures_of self.new) result }
-        ensures fails { FailsAsPlanned (planned Call.Append (plan_of self.old)) (history_of self.old) (history_of self.new) result (length bytes.now) (λ n. after_append stamp (take n bytes.now)) }
+        ensures fails { FailsAsPlanned Call.Append self.old self.new result (length bytes.now) (λ n. after_append stamp (take n bytes.now)) }
         ensures counted { IsCounted Call.Append self.old self.new result }
     {
         let fault = self.plan.next(Call::Append);
         if fault == Some(0) {
-            return Err(one_failure(&mut self.failed_calls));
+            return Err(count_failure(&mut self.failed_calls));
         }
         let part = part_of(fault, bytes.len() as u64);
         self.recording.append(stamp, &bytes[..part as usize])?;
@@ -211,12 +212,12 @@ impl SessionDisk for MemoryDisk {
         requires { IsSome ((history_of self.old).now.standing stamp) }
         ensures changes { Changes (history_of self.old) (history_of self.new) result (length (bytes_at stamp (history_of self.old).now)) (after_sync stamp) }
         ensures cause { DiskHasCause (failures_of self.old) (failures_of self.new) result }
-        ensures fails { FailsAsPlanned (planned Call.Sync (plan_of self.old)) (history_of self.old) (history_of self.new) result (length (bytes_at stamp (history_of self.old).now)) (after_sync stamp) }
+        ensures fails { FailsAsPlanned Call.Sync self.old self.new result (length (bytes_at stamp (history_of self.old).now)) (after_sync stamp) }
         ensures counted { IsCounted Call.Sync self.old self.new result }
     {
         let fault = self.plan.next(Call::Sync);
         if fault == Some(0) {
-            return Err(one_failure(&mut self.failed_calls));
+            return Err(count_failure(&mut self.failed_calls));
         }
         let length = self.recording.bytes(stamp).len() as u64;
         self.recording.sync(stamp, part_of(fault, length))?;
@@ -227,12 +228,12 @@ impl SessionDisk for MemoryDisk {
         requires { IsSome ((history_of self.old).now.standing stamp) }
         ensures changes { Changes (history_of self.old) (history_of self.new) result 0 (λ _. after_remove stamp) }
         ensures cause { DiskHasCause (failures_of self.old) (failures_of self.new) result }
-        ensures fails { FailsAsPlanned (planned Call.Remove (plan_of self.old)) (history_of self.old) (history_of self.new) result 0 (λ _. after_remove stamp) }
+        ensures fails { FailsAsPlanned Call.Remove self.old self.new result 0 (λ _. after_remove stamp) }
         ensures counted { IsCounted Call.Remove self.old self.new result }
     {
         let fault = self.plan.next(Call::Remove);
         if fault == Some(0) {
-            return Err(one_failure(&mut self.failed_calls));
+            return Err(count_failure(&mut self.failed_calls));
         }
         self.recording.remove(stamp)?;
         answer(fault, &mut self.failed_calls)
@@ -241,12 +242,12 @@ impl SessionDisk for MemoryDisk {
     fn settle(&mut self) -> Result<(), DiskError>
         ensures changes { Changes (history_of self.old) (history_of self.new) result 0 (λ _. after_settle) }
         ensures cause { DiskHasCause (failures_of self.old) (failures_of self.new) result }
-        ensures fails { FailsAsPlanned (planned Call.Settle (plan_of self.old)) (history_of self.old) (history_of self.new) result 0 (λ _. after_settle) }
+        ensures fails { FailsAsPlanned Call.Settle self.old self.new result 0 (λ _. after_settle) }
         ensures counted { IsCounted Call.Settle self.old self.new result }
     {
         let fault = self.plan.next(Call::Settle);
         if fault == Some(0) {
-            return Err(one_failure(&mut self.failed_calls));
+            return Err(count_failure(&mut self.failed_calls));
         }
         self.recording.settle()?;
         answer(fault, &mut self.failed_calls)

@@ -166,12 +166,7 @@ impl Recording {
         ensures none { IfOk result (λ left. IfNone left (IsKeepable (history_of self.now).now keeps.now → ⊥)) }
     {
         let alloc = self.allocator();
-        let left = crash::files_left(
-            alloc,
-            self.files.as_slice(),
-            self.removed.as_slice(),
-            keeps,
-        )?;
+        let left = crash::files_left(alloc, self.files.as_slice(), self.removed.as_slice(), keeps)?;
         match left {
             None => Ok(None),
             Some(files) => Ok(Some(Recording {

@@ -1,4 +1,8 @@
+ghost use Rattle.std.specs.Prelude.{IfOk, IsSome, IsNone};
+ghost use Rattle.session_disk.specs.MemoryDisks.{history_of};
+
 use super::*;
+use std::alloc::{AllocError, Global};
 use std::fs;
 use std::process::Abort;
 use std::test::Fail;
@@ -133,6 +137,160 @@ fn shows(rt: &impl Abort, disk: &MemoryDisk, expected: &[(u64, &[u8], u64, bool)
     }
 }
 
+/// Removed: a safe file 4. Standing: a safe file 5 to which two bytes were added, and a file 6 whose name isn't settled.
+fn worn(alloc: Global) -> Result<MemoryDisk, Fail>
+    ensures stands { IfOk result (λ disk. IsSome ((history_of disk).now.standing 5)) }
+    ensures absent { IfOk result (λ disk. IsNone ((history_of disk).now.standing 7)) }
+{
+    let mut disk = MemoryDisk::empty(alloc)?;
+    disk.add_file(4, b"old")?;
+    disk.add_file(5, b"abc")?;
+    disk.create(6)?;
+    disk.append(5, b"de")?;
+    disk.remove(4)?;
+    Ok(disk)
+}
+
+fn perform(disk: &mut MemoryDisk, call: Call) -> Result<(), DiskError>
+    requires stands { IsSome ((history_of disk.old).now.standing 5) }
+    requires absent { IsNone ((history_of disk.old).now.standing 7) }
+{
+    let mut piece = [0u8; 1];
+    match call {
+        Call::List => disk.newest_below(None).map(|_| ()),
+        Call::Length => disk.length(5).map(|_| ()),
+        Call::Read => disk.read_at(5, 0, &mut piece).map(|_| ()),
+        Call::Create => disk.create(7),
+        Call::Append => disk.append(5, b"fg"),
+        Call::Sync => disk.sync(5),
+        Call::Remove => disk.remove(5),
+        Call::Settle => disk.settle(),
+    }
+}
+
+#[test]
+fn each_call_fails_as_planned(rt: HostRuntime) -> Result<(), Fail> {
+    let five: (u64, &[u8], u64, bool) = (5, b"abcde", 3, true);
+    let six: (u64, &[u8], u64, bool) = (6, b"", 0, false);
+    let rows: [(Call, u64, &[(u64, &[u8], u64, bool)]); 14] = [
+        (Call::List, 1, &[five, six]),
+        (Call::Length, 1, &[five, six]),
+        (Call::Read, 1, &[five, six]),
+        (Call::Create, 0, &[five, six]),
+        (Call::Create, 1, &[five, six, (7, b"", 0, false)]),
+        (Call::Append, 0, &[five, six]),
+        (Call::Append, 1, &[(5, b"abcdef", 3, true), six]),
+        (Call::Append, 9, &[(5, b"abcdefg", 3, true), six]),
+        (Call::Sync, 4, &[(5, b"abcde", 4, true), six]),
+        (Call::Sync, 9, &[(5, b"abcde", 5, true), six]),
+        (Call::Remove, 0, &[five, six]),
+        (Call::Remove, 1, &[six]),
+        (Call::Settle, 0, &[five, six]),
+        (Call::Settle, 1, &[five, (6, b"", 0, true)]),
+    ];
+    for (call, done, left) in rows {
+        for lasting in [false, true] {
+            let mut disk = worn(rt.alloc())?;
+            disk.fail(&[Failure {
+                call,
+                nth: 1,
+                done,
+                lasting,
+            }])?;
+            assert_eq!(rt;
+                perform(&mut disk, call),
+                Err(DiskError::Failed),
+                "{call:?} {done}"
+            );
+            assert_eq!(rt; disk.failures(), 1, "{call:?} {done}");
+            shows(&rt, &disk, left);
+            assert_eq!(rt; disk.settle().is_err(), lasting, "{call:?} {done}");
+            assert_eq!(rt; disk.failures(), 1 + u64::from(lasting), "{call:?} {done}");
+            assert_eq!(rt; disk.tell(3), Ok(()), "{call:?} {done}");
+        }
+    }
+    Ok(())
+}
+
+#[test]
+fn a_plan_counts_each_kind_of_call_from_its_start(rt: HostRuntime) -> Result<(), Fail> {
+    let mut disk = MemoryDisk::empty(rt.alloc())?;
+    let second = Failure {
+        call: Call::Settle,
+        nth: 2,
+        done: 0,
+        lasting: false,
+    };
+    let listing = Failure {
+        call: Call::List,
+        nth: 1,
+        done: 0,
+        lasting: false,
+    };
+    disk.fail(&[second, listing])?;
+    assert_eq!(rt; disk.settle(), Ok(()));
+    assert_eq!(rt; disk.newest_below(None), Err(DiskError::Failed));
+    assert_eq!(rt; disk.newest_below(None), Ok(None));
+    assert_eq!(rt; disk.settle(), Err(DiskError::Failed));
+    assert_eq!(rt; disk.settle(), Ok(()));
+    disk.fail(&[second])?;
+    assert_eq!(rt; disk.settle(), Ok(()));
+    disk.fail(&[])?;
+    assert_eq!(rt; disk.settle(), Ok(()));
+    assert_eq!(rt; disk.failures(), 2);
+    Ok(())
+}
+
+#[test]
+fn a_crash_leaves_the_files_that_are_kept(rt: HostRuntime) -> Result<(), Fail> {
+    let disk = worn(rt.alloc())?;
+    let whole: (u64, &[u8], u64, bool) = (5, b"abcde", 5, true);
+    leaves(
+        &rt,
+        &disk,
+        &[keep(6, 0), keep(5, 5)],
+        &[whole, (6, b"", 0, true)],
+    )?;
+    leaves(&rt, &disk, &[keep(5, 5)], &[whole])?;
+    leaves(&rt, &disk, &[keep(5, 3)], &[(5, b"abc", 3, true)])?;
+    leaves(
+        &rt,
+        &disk,
+        &[keep(5, 5), keep(4, 3)],
+        &[(4, b"old", 3, true), whole],
+    )?;
+    refuses(&rt, &disk, &[keep(5, 2)])?;
+    refuses(&rt, &disk, &[keep(5, 6)])?;
+    refuses(&rt, &disk, &[keep(5, 5), keep(4, 2)])?;
+    refuses(&rt, &disk, &[keep(5, 5), keep(5, 5)])?;
+    refuses(&rt, &disk, &[keep(5, 5), keep(9, 0)])?;
+    refuses(&rt, &disk, &[keep(6, 0)])?;
+    Ok(())
+}
+
+fn keep(stamp: u64, bytes: u64) -> Keep {
+    Keep { stamp, bytes }
+}
+
+fn leaves(
+    rt: &impl Abort,
+    disk: &MemoryDisk,
+    keeps: &[Keep],
+    expected: &[(u64, &[u8], u64, bool)],
+) -> Result<(), AllocError> {
+    match disk.crash(keeps)? {
+        Some(left) => shows(rt, &left, expected),
+        None => panic!(rt; "no crash leaves {keeps:?}"),
+    }
+    Ok(())
+}
+
+fn refuses(rt: &impl Abort, disk: &MemoryDisk, keeps: &[Keep]) -> Result<(), AllocError> {
+    let left = disk.crash(keeps)?;
+    assert!(rt; left.is_none(), "a crash leaves {keeps:?}");
+    Ok(())
+}
+
 #[test]
 fn a_folder_disk_keeps_real_files(rt: HostRuntime) -> Result<(), Fail> {
     let folder = "session_disk_a_folder_disk_keeps_real_files";
@@ -141,6 +299,11 @@ fn a_folder_disk_keeps_real_files(rt: HostRuntime) -> Result<(), Fail> {
     fs::write(
         &rt,
         "session_disk_a_folder_disk_keeps_real_files/Tabs_8",
+        "other",
+    )?;
+    fs::write(
+        &rt,
+        "session_disk_a_folder_disk_keeps_real_files/notes.txt",
         "other",
     )?;
     fs::create_dir(&rt, "session_disk_a_folder_disk_keeps_real_files/Session_9")?;
@@ -165,6 +328,7 @@ fn a_folder_disk_keeps_real_files(rt: HostRuntime) -> Result<(), Fail> {
     assert_eq!(rt; disk.append(5, b"d"), Ok(()));
     assert_eq!(rt; disk.length(9), Err(DiskError::Failed));
     assert_eq!(rt; disk.remove(5), Ok(()));
+    assert_eq!(rt; disk.settle(), Ok(()));
     assert_eq!(rt; disk.tell(1), Ok(()));
     assert_eq!(rt; disk.newest_below(None), Ok(None));
     assert_eq!(rt; disk.failures(), 1);

@@ -1,4 +1,4 @@
-use Rattle.std.proofs.Common.{◌≡◌, sym, ◌∙◌, arith}
+use Rattle.std.proofs.Common.{sym, ◌∙◌, arith}
 use Rattle.session_disk.specs.ChangeLog.{moment_of}
 use Rattle.session_disk.proofs.CrashLoop.{left_out, come_again, Laid-push, all_laid}
 use Rattle.session_disk.proofs.crash.files_left.Goals as goal

@@ -11,9 +11,9 @@ pub create-requires-clause-absent : goal.create-requires-clause-absent
 create-requires-clause-absent g c =
     let empty = ap (λ (h : History). h.now.standing 5) c.in_ok-disk.ensures.history in
     let added = ap (λ (h : History). h.now.standing 5) c.in_ok-add_file.ensures.ok in
-    λ _. grind arith
+    grind arith
 
-pub append-requires-clause-stands : goal.append-requires-clause-stands
-append-requires-clause-stands g c =
-    let created = ap (λ (h : History). h.now.standing 5) (c.in_ok-create.ensures.changes tt).ok in
-    λ _. grind arith
+pub append-requires : goal.append-requires
+append-requires g c =
+    let created = ap (λ (h : History). h.now.standing 5) c.in_ok-create.ensures.changes.ok in
+    grind arith
