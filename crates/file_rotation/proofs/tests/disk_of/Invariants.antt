@@ -1,0 +1,10 @@
+use Rattle.std.proofs.Common.{◌≡◌}
+use Rattle.session_disk.specs.Moments.{IsAtRest}
+use Rattle.session_disk.specs.MemoryDisks.{history_of}
+use Rattle.file_rotation.proofs.tests.disk_of.Given as goal
+
+abbrev pub invariant-loop-stamp : goal.invariant-loop-stamp
+invariant-loop-stamp l = record {
+  at_rest : IsAtRest (history_of l.disk).now;
+  untold : (history_of l.disk).now.told ≡ 0;
+}
