@@ -44,6 +44,7 @@ impl Machine for LastId {
       at_most = elim [ None ↦ λ _. lit≤ tt | Some id ↦ λ _. lit≤ tt ];
       unmarked = elim [ None ↦ λ _. tt | Some id ↦ λ _. (λ is. none-some id (sym is), tt) ];
       only = λ id payload command other is also. also ∙ sym is;
+      has_marker = (None, refl);
       marker = λ state command is. ap (λ c. elim c [ None ↦ state | Some id ↦ Some id ]) is;
       covered = λ state first second _ _ _ e. absurd (false≢true e);
     } };
