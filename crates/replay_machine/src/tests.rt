@@ -111,7 +111,10 @@ fn a_tab_without_pages_is_not_shown(rt: HostRuntime) -> Result<(), Fail> {
     let tabs = window.tabs.as_slice();
     assert_eq!(rt; (window.info.id, window.selected, tabs.len()), (1, 0, 1));
     let tab = tabs.first().ok_or("no tab")?;
-    assert_eq!(rt; (tab.info.id, tab.current, tab.pages.as_slice().len()), (5, 0, 1));
+    assert_eq!(rt;
+        (tab.info.id, tab.current, tab.pages.as_slice().len()),
+        (5, 0, 1)
+    );
     Ok(())
 }
 
@@ -137,5 +140,54 @@ fn a_group_without_shown_tabs_is_not_shown(rt: HostRuntime) -> Result<(), Fail> 
     assert_eq!(rt; seen.groups.as_slice().len(), 1);
     let group = seen.groups.as_slice().first().ok_or("no group")?;
     assert_eq!(rt; (group.high, group.low), (1, 2));
+    Ok(())
+}
+
+// The page of tab 2 at an index.
+fn page_at(index: i32) -> [u8; 92] {
+    let mut page = PAGE;
+    let [a, b, c, d] = index.to_le_bytes();
+    page[8] = a;
+    page[9] = b;
+    page[10] = c;
+    page[11] = d;
+    page
+}
+
+#[test]
+fn a_pruning_takes_the_current_page_to_the_one_before_the_range(
+    rt: HostRuntime,
+) -> Result<(), Fail> {
+    let state = replayed(
+        rt.alloc(),
+        &[
+            (6, page_at(0).as_slice()),
+            (6, page_at(1).as_slice()),
+            (6, page_at(2).as_slice()),
+            (6, page_at(3).as_slice()),
+            (6, page_at(4).as_slice()),
+            (6, page_at(5).as_slice()),
+            (7, [2, 0, 0, 0, 3, 0, 0, 0].as_slice()),
+            (24, [2, 0, 0, 0, 2, 0, 0, 0, 2, 0, 0, 0].as_slice()),
+        ],
+    )?;
+    let tab = state.tabs().get(2).ok_or("no tab")?;
+    assert_eq!(rt; (tab.current, tab.pages.len()), (1, 4));
+    Ok(())
+}
+
+#[test]
+fn a_pruning_at_the_front_leaves_no_current_page_below_none(rt: HostRuntime) -> Result<(), Fail> {
+    let state = replayed(
+        rt.alloc(),
+        &[
+            (6, page_at(5).as_slice()),
+            (6, page_at(i32::MAX).as_slice()),
+            (7, [2, 0, 0, 0, 0, 0, 0, 0x80].as_slice()),
+            (11, [2, 0, 0, 0, 0xFF, 0xFF, 0xFF, 0x7F].as_slice()),
+        ],
+    )?;
+    let tab = state.tabs().get(2).ok_or("no tab")?;
+    assert_eq!(rt; (tab.current, tab.pages.len()), (-1, 1));
     Ok(())
 }
