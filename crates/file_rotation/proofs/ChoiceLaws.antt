@@ -84,7 +84,8 @@ chosen_stays image other stamp frames same chosen = record {
 }
 
 -- the chosen file stays where another lawful one stands in its place
-pub chosen_replaced : (image other : Image) (stamp : ℕ) (frames gs : List Frame) (bytes : List ℕ) → ((s : ℕ) → stamp < s → other s ≡ image s) → other stamp ≡ Some bytes → IsLawful bytes gs → IsChosen image stamp frames → IsChosen other stamp gs
+pub chosen_replaced : (image other : Image) (stamp : ℕ) (frames gs : List Frame) (bytes : List ℕ) → ((s : ℕ) → stamp < s → other s ≡ image s) → other stamp ≡ Some bytes →
+    IsLawful bytes gs → IsChosen image stamp frames → IsChosen other stamp gs
 chosen_replaced image other stamp frames gs bytes same stands lawful chosen = record {
   bytes = bytes;
   stands = stands;

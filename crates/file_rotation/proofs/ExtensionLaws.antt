@@ -1,6 +1,6 @@
 -- A lawful file with frames appended, also where a crash cut them anywhere: it stays lawful, and reads to the state after
 -- some front of the appended commands.
-use Rattle.std.proofs.Common.{◌≡◌, ℕ, ◌≤◌, zero, suc, List, [], ◌∷◌, ◌++◌, length, take, drop, sym, ap, ◌∙◌, append_assoc, arith}
+use Rattle.std.proofs.Common.{◌≡◌, ℕ, ◌<◌, ◌≤◌, zero, suc, List, [], ◌∷◌, ◌++◌, length, take, drop, Some, refl, sym, ap, ◌∙◌, append_assoc, inl, arith}
 use Rattle.std.proofs.lemmas.List.{length-append, take-append-le, drop-append-le}
 use Rattle.std.proofs.lemmas.List.Elements.{Contains-append_left}
 use Rattle.std.specs.List.{AllByRecursion, flat_map}
@@ -11,7 +11,9 @@ use Rattle.snss_frames.specs.Reading.{Reads}
 use Rattle.snss_frames.specs.declared.header.Version.{Version}
 use Rattle.snss_frames.specs.declared.header.Version.TheVariants.{One, Three}
 use Rattle.snss_frames.proofs.ReadingLaws.{reading_cut, reading_written}
-use Rattle.file_rotation.specs.Recovery.{IsMarked, IsLawful, AreCommands, FoldsTo}
+use Rattle.session_disk.specs.Images.{Image}
+use Rattle.file_rotation.specs.Recovery.{IsMarked, IsLawful, IsChosen, AreCommands, FoldsTo, Recovers}
+use Rattle.file_rotation.proofs.ChoiceLaws.{chosen_replaced}
 use Rattle.file_rotation.proofs.WalkLaws.{flat_map-append, All-append}
 use Rattle.file_rotation.proofs.FoldLaws.{fold-append, AreCommands-append}
 
@@ -91,3 +93,28 @@ module _ {S C : Type 0} (kind : Kind S C) where
     AreCommands-append kind frames (take n more) folds.0 (take n commands) folds.1 (AreCommands-take more commands n are),
     ap (λ (s : S). fold kind s (take n commands)) folds.2 ∙ sym (fold-append kind kind.start folds.0 (take n commands)),
   )
+
+  -- what a file with appended frames reads to, as far as a crash left them
+  pub record ReadsExtended (other : Image) (more : List Frame) (state : S) (commands : List C) (n : ℕ) : Type 0 where
+    pub count : ℕ
+    pub within : count ≤ length commands
+    pub covers : (k : ℕ) → k ≤ length more → length (flat_map frame_bytes (take k more)) ≤ n → k ≤ count
+    pub recovers : Recovers kind other (fold kind state (take count commands))
+
+  length-commands : (frames : List Frame) (commands : List C) → AreCommands kind frames commands → length frames ≡ length commands
+  length-commands [] [] h = refl
+  length-commands [] (c ∷ commands) h = absurd h
+  length-commands (f ∷ frames) [] h = absurd h
+  length-commands (f ∷ frames) (c ∷ commands) h = ap suc (length-commands frames commands h.1)
+
+  pub reads_extended : (image other : Image) (stamp : ℕ) (bytes : List ℕ) (frames more : List Frame) (state : S) (commands : List C) (n : ℕ) → IsChosen image stamp frames → IsWholeLawful bytes frames → AllByRecursion IsFrame more →
+      FoldsTo kind frames state → AreCommands kind more commands → ((s : ℕ) → stamp < s → other s ≡ image s) → other stamp ≡ Some (bytes ++ take n (flat_map frame_bytes more)) → ReadsExtended other more state commands n
+  reads_extended image other stamp bytes frames more state commands n chosen whole each folds are later here =
+      let longer = extended bytes frames more n whole each in
+      let gs = frames ++ take longer.count more in
+      record {
+        count = longer.count;
+        within = omega (arith, longer.within, length-commands more commands are);
+        covers = longer.covers;
+        recovers = inl (stamp, gs, chosen_replaced image other stamp frames gs _ later here longer.lawful chosen, folds_extended frames more state commands longer.count folds are);
+      }

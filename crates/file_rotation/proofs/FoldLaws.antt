@@ -1,13 +1,10 @@
 -- Frames as commands, and the states to which they fold.
-use Rattle.std.proofs.Common.{◌≡◌, ℕ, ◌+◌, ◌-◌, ◌^◌, min, false, List, [], ◌∷◌, ◌++◌, length, drop, refl, sym, ap, ◌∙◌, arith}
+use Rattle.std.proofs.Common.{◌≡◌, ℕ, ◌+◌, ◌-◌, ◌^◌, min, List, [], ◌∷◌, ◌++◌, length, drop, refl, sym, ap, ◌∙◌, arith}
 use Rattle.std.proofs.lemmas.List.{length-append}
 use Rattle.machine_law.specs.Kind.{Kind, fold}
-use Rattle.snss_frames.specs.Frame.{Frame, BeginsWith, begins_frame}
-use Rattle.snss_frames.specs.Reading.{ending_at}
-use Rattle.snss_frames.specs.declared.ending.Ending.{Ending}
+use Rattle.snss_frames.specs.Frame.{Frame, BeginsWith}
 use Rattle.file_rotation.specs.Recovery.{AreCommands, FoldsTo}
-use Rattle.file_rotation.specs.Replay.{Replays}
-use Rattle.file_rotation.proofs.WalkLaws.{Passed, passed_more, passed_all}
+use Rattle.file_rotation.proofs.WalkLaws.{Passed, passed_more}
 
 module _ {S C : Type 0} (kind : Kind S C) where
   -- commands in a row fold one after another
@@ -43,14 +40,4 @@ module _ {S C : Type 0} (kind : Kind S C) where
     passed = passed_more bytes at next folded.frames f folded.passed begins e;
     folds = folds_more folded.frames state after f command folded.folds payload steps;
     counted = omega (arith, counts, folded.counted, length-append folded.frames (f ∷ []));
-  }
-
-  pub folded_all : (bytes : List ℕ) (at : ℕ) (state : S) (commands : ℕ) (ending : Ending) → FoldedTo bytes at state commands → begins_frame (drop at bytes) ≡ false → ending ≡ ending_at at (drop at bytes) → Replays kind bytes state commands ending
-  folded_all bytes at state commands ending folded none e = record {
-    frames = folded.frames;
-    rest = drop at bytes;
-    read = passed_all bytes at folded.frames folded.passed none;
-    folds = folded.folds;
-    counted = folded.counted;
-    ends = e ∙ ap (λ (n : ℕ). ending_at n (drop at bytes)) folded.passed.place;
   }

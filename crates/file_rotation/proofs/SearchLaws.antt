@@ -32,13 +32,6 @@ reads_bytes m s bytes None e some same = absurd (let h = some in cc)
 reads_bytes m s bytes (Some file) e some same =
     ap (option_map (λ (f : Standing). f.bytes)) e ∙ ap Some (sym (same ∙ ap bytes_of e))
 
-pub searched_first : (m : Moment) (newest : Option ℕ) → IsNewestBelow m.standing None newest → Searched m newest
-searched_first m None none = record { stands = tt; above = λ s bytes frames reads lawful. none s (reads_standing m s bytes (m.standing s) refl reads) tt }
-searched_first m (Some stamp) newest = record {
-  stands = newest.stands;
-  above = λ s bytes frames reads lawful. newest.greatest s (reads_standing m s bytes (m.standing s) refl reads) tt;
-}
-
 -- what was read of the file that is looked at
 pub searched_reads : (m : Moment) (stamp : ℕ) (bytes : List ℕ) → Searched m (Some stamp) → bytes ≡ bytes_at stamp m → as_it_reads m stamp ≡ Some bytes
 searched_reads m stamp bytes searched same = reads_bytes m stamp bytes (m.standing stamp) refl searched.stands same
@@ -57,7 +50,8 @@ below_unlawful m stamp bytes searched same refused s other frames reads lawful =
     ]
 
 -- past a file that isn't lawful
-pub searched_more : (m : Moment) (stamp : ℕ) (bytes : List ℕ) (next : Option ℕ) → Searched m (Some stamp) → bytes ≡ bytes_at stamp m → ((frames : List Frame) → IsLawful bytes frames → ⊥) → IsNewestBelow m.standing (Some stamp) next → Searched m next
+pub searched_more : (m : Moment) (stamp : ℕ) (bytes : List ℕ) (next : Option ℕ) → Searched m (Some stamp) → bytes ≡ bytes_at stamp m →
+    ((frames : List Frame) → IsLawful bytes frames → ⊥) → IsNewestBelow m.standing (Some stamp) next → Searched m next
 searched_more m stamp bytes None searched same refused none = record {
   stands = tt;
   above = λ s other frames reads lawful.

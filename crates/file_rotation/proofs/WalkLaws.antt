@@ -27,10 +27,6 @@ pub All-append : {X : Type 0} (P : X → Type 0) (xs ys : List X) → AllByRecur
 All-append P [] ys p q = q
 All-append P (x ∷ xs) ys p q = (p.0, All-append P xs ys p.1 q)
 
--- at the first frame
-pub passed_none : (bytes : List ℕ) → 8 ≤ length bytes → Passed bytes 8 []
-passed_none bytes head = record { whole = refl; each = tt; place = refl; within = head }
-
 one : (f : Frame) → flat_map frame_bytes (f ∷ []) ≡ frame_bytes f
 one f = append-nil (frame_bytes f)
 
@@ -95,7 +91,8 @@ pub lacks_more : (passed : List Frame) (f g : Frame) → (Contains passed g → 
 lacks_more passed f g none other h = elim (Contains-push_cases passed f g h) [ inl before ↦ none before | inr here ↦ other here ]
 
 -- where no frame begins, what wasn't passed isn't among the frames of the file
-pub reads_unmarked : (bytes : List ℕ) (at : ℕ) (passed : List Frame) (g : Frame) (frames : List Frame) (rest : List ℕ) → Passed bytes at passed → begins_frame (drop at bytes) ≡ false → (Contains passed g → ⊥) → Reads (drop 8 bytes) frames rest → Contains frames g → ⊥
+pub reads_unmarked : (bytes : List ℕ) (at : ℕ) (passed : List Frame) (g : Frame) (frames : List Frame) (rest : List ℕ) → Passed bytes at passed → begins_frame (drop at bytes) ≡ false →
+    (Contains passed g → ⊥) → Reads (drop 8 bytes) frames rest → Contains frames g → ⊥
 reads_unmarked bytes at passed g frames rest walked none lacks reads h =
     let same = one_reading (drop 8 bytes) frames passed rest (drop at bytes) reads (passed_all bytes at passed walked none) in
     lacks (rw same.0 at h)

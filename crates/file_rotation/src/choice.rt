@@ -31,7 +31,8 @@ pub(crate) struct LawfulFile {
 }
 
 /// The chosen file of a disk, and `None` exactly where no file is lawful. Files are read whole, one at a time, from
-/// the newest on up to the chosen one.
+/// the newest on up to the chosen one; it needs memory for the longest of them. A refusal is the disk's own failure
+/// or want of memory.
 pub fn choose<D: SessionDisk>(alloc: Global, disk: &mut D) -> Result<Option<Chosen>, RotateFault>
     ensures in_range { IfOk result (λ found. IfSome found (λ chosen. chosen.stamp < 2 ^ 63)) }
     ensures chosen { D.tells → IfOk result (IsChoice (as_it_reads (D.history disk.old).now)) }
@@ -45,7 +46,7 @@ pub fn choose<D: SessionDisk>(alloc: Global, disk: &mut D) -> Result<Option<Chos
     }
 }
 
-/// The newest lawful file, where the newest of all files is given.
+/// The newest lawful file, given the newest of all. Only one file is held at a time.
 pub(crate) fn newest_lawful<D: SessionDisk>(
     alloc: Global,
     disk: &mut D,

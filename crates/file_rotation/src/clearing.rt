@@ -14,7 +14,8 @@ use session_disk::{DiskError, SessionDisk};
 use snss_frames::read_header;
 
 /// Removes each file with a smaller stamp that isn't foreign, the greatest first, then settles. After a refusal, want
-/// of memory among them, some of these files may be gone. It takes no memory of its own.
+/// of memory among them, some of these files may be gone. It takes no memory of its own, and reads eight bytes of
+/// each file at most.
 pub fn clear_older<D: SessionDisk>(disk: &mut D, stamp: u64) -> Result<(), RotateFault>
     requires { stamp < 2 ^ 63 }
     ensures ok { D.tells → OnOk result ((D.history disk.new).now ≡ cleared stamp (D.history disk.old).now) }

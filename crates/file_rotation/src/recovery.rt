@@ -37,7 +37,9 @@ struct Replayed<M: Machine> {
     ending: Ending,
 }
 
-/// Reads the files of a disk, whole and one at a time, from the newest on up to the chosen one, and folds its commands.
+/// Reads the files of a disk, whole and one at a time, from the newest on up to the chosen one, and folds its commands
+/// one by one. It needs memory for the state and for the longest of these files. A refusal is the disk's own failure or
+/// want of memory.
 pub fn recover<M: Machine, D: SessionDisk>(
     alloc: Global,
     disk: &mut D,

@@ -5,7 +5,8 @@ use Rattle.snss_frames.specs.declared.frame.FrameRef.{FrameRef}
 use Rattle.file_rotation.proofs.WalkLaws.{frame_within}
 use Rattle.file_rotation.proofs.frames.frame_at.Goals as goal
 
-all_within : (bytes : List ℕ) (at : ℕ) (found : Option FrameRef) → at ≤ length bytes → IfSome found (λ f. BeginsWith (drop at bytes) (record { id = f.id; payload = f.payload.now })) → IfSome found (λ f. at + (3 + length f.payload.now) ≤ length bytes)
+all_within : (bytes : List ℕ) (at : ℕ) (found : Option FrameRef) → at ≤ length bytes →
+    IfSome found (λ f. BeginsWith (drop at bytes) (record { id = f.id; payload = f.payload.now })) → IfSome found (λ f. at + (3 + length f.payload.now) ≤ length bytes)
 all_within bytes at None small b = tt
 all_within bytes at (Some f) small b = frame_within bytes at (record { id = f.id; payload = f.payload.now }) small b
 

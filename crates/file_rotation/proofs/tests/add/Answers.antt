@@ -1,4 +1,4 @@
-use Rattle.std.proofs.Common.{◌≡◌, ℕ, ◌<◌, Option, Some, None, IsSome, IsNone, IfSome, refl, sym, ap, ◌∙◌, arith}
+use Rattle.std.proofs.Common.{ℕ, ◌<◌, Option, Some, None, IsSome, IsNone, IfSome, refl, ap, arith}
 use Rattle.session_disk.specs.Histories.{History}
 use Rattle.session_disk.specs.Moments.{Standing, IsNewestBelow}
 use Rattle.file_rotation.proofs.tests.add.Goals as goal
