@@ -55,7 +55,7 @@ abbrev pub with_shown : Window → List Tab → List ViewWindow → List ViewWin
 with_shown w [] others = others
 with_shown w (t ∷ ts) others = view_window w (t ∷ ts) ∷ others
 
--- the windows that have tabs, where each id has these tabs
+-- the windows in which tabs are shown, by what is shown under each id
 abbrev pub view_windows : (ℤ → List Tab) → List Window → List ViewWindow
 view_windows tabs_of [] = []
 view_windows tabs_of (w ∷ ws) = with_shown w (tabs_of w.info.id) (view_windows tabs_of ws)

@@ -57,14 +57,14 @@ impl Pages {
     }
 
     /// The position of the first page whose index is at least this, else the last position; 0 where there are none.
-    pub fn first_from(&self, index: i32) -> u32
+    pub(crate) fn first_from(&self, index: i32) -> u32
         ensures { result ≡ first_from index (map (λ page. page.0) self.now) }
     {
         page_vec::first_from(self.pages.as_slice(), index)
     }
 
     /// The pages without their indices, in memory of their own.
-    pub fn navigations(&self) -> Result<Vec<Navigation>, AllocError>
+    pub(crate) fn navigations(&self) -> Result<Vec<Navigation>, AllocError>
         ensures { IfOk result (λ v. v.items ≡ map (λ page. page.1) self.now) }
     {
         page_vec::navigations(*self.pages.allocator(), self.pages.as_slice())

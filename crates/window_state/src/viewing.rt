@@ -1,4 +1,5 @@
-//! The view of a state.
+//! The view of a state: the windows that have shown tabs, the groups of these, and the active window. Stands on the
+//! shown tabs in the order of their places.
 ghost use Rattle.std.specs.Prelude.{◌≡◌, ◌≤◌, ◌++◌, [], int_le, length, map, filter, position, IfOk, OnOk};
 ghost use Rattle.std.specs.List.{AllByRecursion, list_any};
 ghost use Rattle.std.specs.Ordering.{int_eq};
@@ -21,8 +22,8 @@ use crate::window::Window;
 use navigation_entry::GroupInfo;
 use std::alloc::{AllocError, Global};
 
-/// What a user sees of a state, in memory of its own. With n tabs it takes a number of comparisons in the number of
-/// tabs, windows and groups times the logarithm of n, and it copies each shown page, text and value once.
+/// What a user sees of a state, in memory of its own. It makes O((t + w + g) log t) comparisons for t tabs, w windows
+/// and g groups, and copies once each page, text and value that is shown.
 pub fn view(alloc: Global, state: &SessionState) -> Result<View, AllocError>
     ensures { IfOk result (λ v. v ≡ view state.now) }
 {
