@@ -1,0 +1,13 @@
+pub mod Fresh
+pub mod Account
+pub mod Lay
+pub mod Rotation
+pub mod Journals
+pub mod Faults
+pub mod Dial
+pub use Rattle.machine_law.specs.Kind
+pub use Rattle.session_disk.specs.Causes
+pub use Rattle.session_disk.specs.Moments
+pub use Rattle.session_disk.specs.Images
+pub use Rattle.session_disk.specs.Histories
+pub use Rattle.file_rotation.specs.Recovery
