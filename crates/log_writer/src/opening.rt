@@ -8,7 +8,7 @@ ghost use Rattle.log_writer.specs.Fresh.{fresh};
 ghost use Rattle.log_writer.specs.Account.{restated, opened};
 ghost use Rattle.log_writer.specs.Journals.{IsReady, Advances};
 ghost use Rattle.log_writer.specs.Lay.{IsAbove};
-ghost use Rattle.log_writer.specs.Faults.{answer, IsLongerThan, RefusesFailed, RefusesOpening, RefusesStamp, RefusesLast, JournalHasCause};
+ghost use Rattle.log_writer.specs.Faults.{answer, IsLongerThan, RefusesFailed, RefusesOpening, RefusesStamp, RefusesLast, LeavesDisk, JournalHasCause};
 
 use crate::fault::JournalFault;
 use crate::fresh::fresh_file;
@@ -35,6 +35,7 @@ impl<M: Machine, D: SessionDisk> Journal<M, D> {
         ensures limits { IfOk result (λ j. j.limits ≡ limits) }
         ensures already { IfErr result (λ e. RefusesFailed None (answer e.1)) }
         ensures stamp { IfErr result (λ e. RefusesStamp true (answer e.1)) }
+        ensures unmade { IfErr result (λ e. LeavesDisk (answer e.1) → D.history e.0 ≡ D.history disk) }
         ensures cause { IfErr result (λ e. JournalHasCause (D.failed disk) (D.failed e.0) (answer e.1)) }
         ensures later { IfOk result (λ j. D.failed disk ≤ D.failed j.disk) }
         ensures long { IfErr result (λ e. IsLongerThan limits.max_file e.1) }
@@ -77,6 +78,7 @@ fn begin<M: Machine, D: SessionDisk, C: Clock>(
     ensures in_range { IfOk result (λ p. p.stamp < 2 ^ 63) }
     ensures stands { D.tells → IfOk result (λ p. IsSome ((D.history disk.new).now.standing p.stamp)) }
     ensures already { RefusesFailed None result }
+    ensures unmade { LeavesDisk result → D.history disk.new ≡ D.history disk.old }
     ensures stamp { RefusesStamp true result }
     ensures cause { JournalHasCause (D.failed disk.old) (D.failed disk.new) result }
     ensures long { IfErr result (IsLongerThan limits.now.max_file) }

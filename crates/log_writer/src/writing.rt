@@ -8,7 +8,7 @@ ghost use Rattle.snss_frames.specs.Frame.{frame_bytes};
 ghost use Rattle.log_writer.specs.Fresh.{frame_of, fresh, frame_length, IsWritten};
 ghost use Rattle.log_writer.specs.Account.{Account, Becomes, state_of, restated, compacted, extended, rotated, written};
 ghost use Rattle.log_writer.specs.Journals.{Runs, Follows};
-ghost use Rattle.log_writer.specs.Faults.{plain, is_due, needed, Stepped, Unstepped, Takes, Restated, RefusesFailed, RefusesLength, RefusesStamp, RefusesLast, KeepsFirst, CallsNothing, JournalHasCause};
+ghost use Rattle.log_writer.specs.Faults.{plain, is_due, needed, Stepped, Unstepped, Takes, Restated, RefusesFailed, RefusesLength, RefusesStamp, RefusesLast, KeepsFirst, CallsNothing, LeavesDisk, JournalHasCause};
 
 use crate::fault::{First, JournalFault, Refused};
 use crate::fresh::{frame, fresh_file};
@@ -36,6 +36,8 @@ impl<M: Machine, D: SessionDisk> Journal<M, D> {
             (self.new.pending ≡ self.old.pending) × (self.new.present ≡ self.old.present) }
         ensures length { RefusesLength self.old.limits.max_file (needed M.kind self.old.limits self.old.present command) (plain result) }
         ensures stamp { RefusesStamp (is_due self.old.limits self.old.present (frame_length M.kind command)) (plain result) }
+        ensures limits { self.new.limits ≡ self.old.limits }
+        ensures unmade { LeavesDisk (plain result) → D.history self.new.disk ≡ D.history self.old.disk }
         ensures cause { JournalHasCause (D.failed self.old.disk) (D.failed self.new.disk) (plain result) }
         ensures keeps_first { KeepsFirst (is_due self.old.limits self.old.present (frame_length M.kind command)) (D.failed self.new.disk) self.new.failed (plain result) }
         ensures stepped { OnOk result (Stepped M.kind self.old.present self.new.present command) }
@@ -100,6 +102,8 @@ impl<M: Machine, D: SessionDisk> Journal<M, D> {
             (self.new.pending ≡ self.old.pending) × (self.new.present ≡ self.old.present) }
         ensures length { RefusesLength self.old.limits.max_file (needed M.kind self.old.limits self.old.present command.now) result }
         ensures stamp { RefusesStamp (is_due self.old.limits self.old.present (frame_length M.kind command.now)) result }
+        ensures limits { self.new.limits ≡ self.old.limits }
+        ensures unmade { LeavesDisk result → D.history self.new.disk ≡ D.history self.old.disk }
         ensures cause { JournalHasCause (D.failed self.old.disk) (D.failed self.new.disk) result }
         ensures keeps_first { KeepsFirst (is_due self.old.limits self.old.present (frame_length M.kind command.now)) (D.failed self.new.disk) self.new.failed result }
         ensures stepped { OnOk result (Stepped M.kind self.old.present self.new.present command.now) }
@@ -137,6 +141,8 @@ impl<M: Machine, D: SessionDisk> Journal<M, D> {
         ensures length { RefusesLength self.old.limits.max_file (self.old.present.length + frame_length M.kind command.now) result }
         ensures already { RefusesFailed None result }
         ensures stamp { RefusesStamp false result }
+        ensures limits { self.new.limits ≡ self.old.limits }
+        ensures unmade { LeavesDisk result → D.history self.new.disk ≡ D.history self.old.disk }
         ensures cause { JournalHasCause (D.failed self.old.disk) (D.failed self.new.disk) result }
         ensures keeps_first { KeepsFirst false (D.failed self.new.disk) self.new.failed result }
         ensures stepped { OnOk result (Stepped M.kind self.old.present self.new.present command.now) }
@@ -179,6 +185,8 @@ impl<M: Machine, D: SessionDisk> Journal<M, D> {
         ensures length { RefusesLength self.old.limits.max_file (length (fresh M.kind self.old.present.state) + frame_length M.kind command.now) result }
         ensures already { RefusesFailed None result }
         ensures stamp { RefusesStamp true result }
+        ensures limits { self.new.limits ≡ self.old.limits }
+        ensures unmade { LeavesDisk result → D.history self.new.disk ≡ D.history self.old.disk }
         ensures cause { JournalHasCause (D.failed self.old.disk) (D.failed self.new.disk) result }
         ensures keeps_first { KeepsFirst true (D.failed self.new.disk) self.new.failed result }
         ensures stepped { OnOk result (Stepped M.kind self.old.present self.new.present command.now) }
@@ -214,6 +222,7 @@ impl<M: Machine, D: SessionDisk> Journal<M, D> {
         ensures long { CallsNothing result → ⊥ }
         ensures limits { self.new.limits ≡ self.old.limits }
         ensures stamp { RefusesStamp true result }
+        ensures unmade { LeavesDisk result → D.history self.new.disk ≡ D.history self.old.disk }
         ensures cause { JournalHasCause (D.failed self.old.disk) (D.failed self.new.disk) result }
         ensures keeps_first { KeepsFirst true (D.failed self.new.disk) self.new.failed result }
         ensures restated { OnOk result (Restated self.old.present self.new.present (length bytes.now)) }
