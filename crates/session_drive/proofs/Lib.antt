@@ -1,10 +1,9 @@
 pub mod LineLaws
 pub mod TabLineLaws
 pub mod TabLineReading
-pub mod FileLaws
 pub mod StreamLaws
-pub mod RecoveryLaws
-pub mod MomentLaws
-pub mod LayingLaws
-pub mod ToldLaws
+pub mod WordLaws
+pub mod ShownLaws
+pub mod IssuingLaws
 pub mod OutputLaws
+pub mod StepLaws

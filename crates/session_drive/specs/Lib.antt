@@ -1,9 +1,8 @@
 pub mod Words
 pub mod Lines
 pub mod TabLine
-pub mod Replay
-pub mod Recovery
-pub mod SessionFile
+pub mod Shown
+pub mod Issuing
 pub mod Script
 pub mod Written
 pub mod Outcome

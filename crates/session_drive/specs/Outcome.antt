@@ -4,9 +4,10 @@ use Rattle.std.specs.Fmt.{decimal}
 use Rattle.session_disk.specs.declared.family.Family.{Family}
 use Rattle.session_disk.specs.declared.family.Family.TheVariants.{Session, Tabs}
 use Rattle.session_drive.specs.declared.status.Status.{Status}
-use Rattle.session_drive.specs.declared.status.Status.TheVariants.{Done, Usage, Refused, NotEmpty, Disk, Read, Write, TooLong, Memory}
+use Rattle.session_drive.specs.declared.status.Status.TheVariants.{Done, Usage, Refused, LastStamp, Disk, Read, Write, TooLong, Memory}
+use Rattle.session_drive.specs.declared.status.Long.{Long}
 use Rattle.session_drive.specs.declared.status.Why.TheVariants.{NotBuilt}
-use Rattle.session_drive.specs.declared.status.Long.TheVariants.{Script}
+use Rattle.session_drive.specs.declared.status.Long.TheVariants.{Script, File}
 use Rattle.session_drive.specs.TabLine.{issued, refused_line}
 
 -- the process's exit code
@@ -19,27 +20,31 @@ code Read = 5
 code Write = 6
 code (TooLong what needed) = 7
 code Memory = 8
-code (NotEmpty stamp) = 10
+code (LastStamp family stamp) = 9
 
 abbrev pub family_name : Family → List ℕ
 family_name Session = codes "session"
 family_name Tabs = codes "tabs"
 
--- the line of a fresh start: no window, no tab, no closed entry
-abbrev pub start_line : List ℕ
-start_line = codes "start 0 0 0\n"
+abbrev pub long_name : Long → List ℕ
+long_name Script = codes "script"
+long_name (File family) = family_name family
+
+-- the line of a start: how many windows, how many tabs, no closed entry
+abbrev pub start_line : ℕ → ℕ → List ℕ
+start_line windows tabs = codes "start " ++ (decimal windows ++ (codes " " ++ (decimal tabs ++ codes " 0\n")))
 
 -- the last line; after a failed write there is none
 abbrev pub last_line : Status → List ℕ
 last_line (Done session tabs) = codes "done " ++ (decimal session ++ (codes " " ++ (decimal tabs ++ codes "\n")))
 last_line Usage = codes "usage\n"
 last_line (Refused line NotBuilt) = codes "refused " ++ (decimal line ++ codes " not-built\n")
-last_line (NotEmpty stamp) = codes "not-empty " ++ (decimal stamp ++ codes "\n")
 last_line (Disk family) = codes "fault disk " ++ (family_name family ++ codes "\n")
 last_line Read = codes "fault read\n"
 last_line Write = []
-last_line (TooLong Script needed) = codes "fault too-long script " ++ (decimal needed ++ codes "\n")
+last_line (TooLong what needed) = codes "fault too-long " ++ (long_name what ++ (codes " " ++ (decimal needed ++ codes "\n")))
 last_line Memory = codes "fault memory\n"
+last_line (LastStamp family stamp) = codes "fault last-stamp " ++ (family_name family ++ (codes " " ++ (decimal stamp ++ codes "\n")))
 
 -- the answer to a script in which nothing fails
 abbrev pub answer_of : Option ℕ → ℕ → Status

@@ -1,41 +1,54 @@
-//! The top call: the words, the script, the session's disk and the output of one run.
-ghost use Rattle.std.specs.Prelude.{◌≡◌, ◌≢◌, ◌⊎◌, ◌<◌, ◌≤◌, ◌^◌, ℕ, List, map, true, length, None, IfSome, IfOk, IsErrOf, OnOk, MatchResult};
+//! The top call: the words, the script, the session's journal and the output of one run.
+ghost use Rattle.std.specs.Prelude.{◌≡◌, ◌≢◌, ◌⊎◌, ◌≤◌, [], length, map, None, Some, IfSome, IsErrOf, IsSome, MatchResult};
 ghost use Rattle.std.specs.String.{string_bytes};
-ghost use Rattle.session_disk.specs.Causes.{Rose, DiskHasCause};
-ghost use Rattle.session_disk.specs.Moments.{IsAtRest, IsNewestBelow};
+ghost use Rattle.session_disk.specs.Causes.{Rose};
 ghost use Rattle.session_disk.specs.Histories.{Leaves};
+ghost use Rattle.file_rotation.specs.Recovery.{IsGood};
+ghost use Rattle.log_writer.specs.Faults.{answer, RefusesFailed};
+ghost use Rattle.log_writer.specs.Journals.{IsReady};
+ghost use Rattle.window_state.specs.States.{State};
+ghost use Rattle.compactor.specs.SessionKind.{session_kind};
 ghost use Rattle.session_drive.specs.TabLine.{issued};
-ghost use Rattle.session_drive.specs.Replay.{start};
-ghost use Rattle.session_drive.specs.Recovery.{IsGood};
-ghost use Rattle.session_drive.specs.SessionFile.{IsFileOf};
+ghost use Rattle.session_drive.specs.Shown.{Shows};
+ghost use Rattle.session_drive.specs.Issuing.{Continues, HoldsCommands};
 ghost use Rattle.session_drive.specs.Script.{script_max};
-ghost use Rattle.session_drive.specs.Words.{is_run};
-ghost use Rattle.session_drive.specs.Outcome.{last_line, unsaid};
-ghost use Rattle.session_drive.specs.Run.{Cause, Says, SaysFirst, Prints, IsLineOf, IsBare, IsDone, LeavesDisk, CallsNoDisk, HoldsCommands};
-ghost use Rattle.session_drive.specs.Steps.{ReadCause, EmptyCause, FileCause, WritesLine, status_of};
+ghost use Rattle.session_drive.specs.Words.{limits_of, options};
+ghost use Rattle.session_drive.specs.Outcome.{answer_of, last_line, unsaid};
+ghost use Rattle.session_drive.specs.Run.{Cause, IsRun, Says, Prints, IsDone, CallsNoDisk};
+ghost use Rattle.session_drive.specs.Steps.{ReadCause, StartCause, JournalCause, SaysFirst, SaysStart, IsLineOf, WritesLine, status_of};
 ghost use Rattle.session_drive.specs.declared.status.Status.TheVariants.{Usage};
 
-use crate::file::{FileFault, SessionFile, build};
+use crate::issuing::issue_script;
 use crate::script::{SCRIPT_MAX, ScriptFault, read_script};
-use crate::status::{Long, Status, Why};
-use crate::words::is_run;
+use crate::shown::shown_counts;
+use crate::status::{Long, Status, Why, start_line};
+use crate::words::read_words;
 use crate::write::write_whole;
-use session_disk::{Clock, DiskError, Family, SessionDisk, Sink, Source};
+use compactor::SessionMachine;
+use log_writer::{Journal, JournalFault, Limits};
+use session_disk::{Clock, Family, SessionDisk, Sink, Source};
 use std::alloc::Global;
+use window_state::SessionState;
 
-/// The line of a fresh start: no window, no tab, no closed entry.
-const START_LINE: &[u8] = b"start 0 0 0\n";
-
-/// An answer and its last line, which is made before anything is laid down for the answer.
+/// An answer and its last line.
 #[derive(Drop)]
 struct Closing {
     status: Status,
     line: String,
 }
 
-/// Does all that the program does: reads the words and the script, makes the session file, and says so.
+/// What is to be run: a script, and how much goes into one file.
+#[derive(Drop)]
+struct Order {
+    text: Vec<u8>,
+    limits: Limits,
+}
+
+/// Does all that the program does: reads the words and the script, opens the session's journal, issues the lines to it,
+/// and says how it went.
 ///
-/// The clauses on content hold where the source, the sink or the disk tells it. `tabs` comes back untouched.
+/// The clauses on content hold where the source, the sink or the disk tells it; those on files for the state to which the
+/// disk's files read, where it is at rest and nothing is told. `tabs` comes back untouched.
 pub fn drive_inline<S: Source, K: Sink, D: SessionDisk, C: Clock>(
     alloc: Global,
     words: &[String],
@@ -47,27 +60,29 @@ pub fn drive_inline<S: Source, K: Sink, D: SessionDisk, C: Clock>(
 ) -> (Status, D, D)
     // Each answer has its cause.
     ensures cause { Cause
-        (record { words = map string_bytes words.now; text = S.left script.old; newest = λ r. (D.tells → IsNewestBelow (D.history session).now.standing None r) })
+        (record { words = map string_bytes words.now; text = S.left script.old; stands = λ stamp. (D.tells → IsSome ((D.history result.1).now.standing stamp)) })
         (record { source = S.faults script.old; sink = K.faults out.old; disk = D.failed session })
         (record { source = S.faults script.new; sink = K.faults out.new; disk = D.failed result.1 })
         result.0 }
-    ensures output { Prints (K.written out.old) (K.written out.new) (Says (map string_bytes words.now) (S.left script.old) (Rose (K.faults out.old) (K.faults out.new)) result.0) }
+
+    // The line `start` has the numbers of windows and tabs that the recovered state shows.
+    ensures output { Prints (K.written out.old) (K.written out.new)
+        (Says (λ windows tabs. (D.tells → (first : State) → IsReady session_kind (D.history session).now first → Shows first windows tabs))
+        (map string_bytes words.now) (S.left script.old) (Rose (K.faults out.old) (K.faults out.new)) result.0) }
 
     // What stands at the end.
-    ensures done { D.tells → IsAtRest (D.history session).now → (D.history session).now.told ≡ 0 →
-        IfSome (S.left script.old) (λ text. IsDone result.0 → HoldsCommands (D.history result.1).now text) }
-    ensures unchanged { LeavesDisk result.0 → D.history result.1 ≡ D.history session }
+    ensures done { D.tells → (first : State) → IsReady session_kind (D.history session).now first →
+        IfSome (S.left script.old) (λ text. IsDone result.0 → HoldsCommands (D.history result.1).now first text) }
     ensures not_called { CallsNoDisk result.0 → result.1 ≡ session }
     ensures not_read { result.0 ≡ Status.Usage → script.new ≡ script.old }
     ensures tabs { result.2 ≡ tabs }
 
     // A crash at any moment of the call leaves files that read to the state after some front of the commands,
     // with every told one in it.
-    ensures crash { D.tells → IsBare (D.history session).now → (D.history session).now.told ≡ 0 →
-        IfSome (S.left script.old) (λ text. Leaves (D.history session) (D.history result.1) (IsGood start (issued text))) }
+    ensures crash { D.tells → (first : State) → IsReady session_kind (D.history session).now first →
+        IfSome (S.left script.old) (λ text. Leaves (D.history session) (D.history result.1) (IsGood session_kind first (issued text))) }
 {
-    let mut session = session;
-    let closing = run(alloc, words, script, out, &mut session, clock);
+    let (closing, session) = run(alloc, words, script, out, session, clock);
     let status = finish(out, &closing);
     (status, session, tabs)
 }
@@ -78,100 +93,82 @@ fn run<S: Source, K: Sink, D: SessionDisk, C: Clock>(
     words: &[String],
     script: &mut S,
     out: &mut K,
-    session: &mut D,
+    session: D,
     clock: &mut C,
-) -> Closing
+) -> (Closing, D)
     ensures cause { Cause
-        (record { words = map string_bytes words.now; text = S.left script.old; newest = λ r. (D.tells → IsNewestBelow (D.history session.old).now.standing None r) })
-        (record { source = S.faults script.old; sink = K.faults out.old; disk = D.failed session.old })
-        (record { source = S.faults script.new; sink = K.faults out.new; disk = D.failed session.new })
-        result.status }
-    ensures line { IsLineOf result.status (string_bytes result.line) }
-    ensures output { Prints (K.written out.old) (K.written out.new) (SaysFirst result.status) }
-    ensures cut { result.status ≡ Status.Write → is_run (map string_bytes words.now) ≡ true }
+        (record { words = map string_bytes words.now; text = S.left script.old; stands = λ stamp. (D.tells → IsSome ((D.history result.1).now.standing stamp)) })
+        (record { source = S.faults script.old; sink = K.faults out.old; disk = D.failed session })
+        (record { source = S.faults script.new; sink = K.faults out.new; disk = D.failed result.1 })
+        result.0.status }
+    ensures line { IsLineOf result.0.status (string_bytes result.0.line) }
+    ensures output { Prints (K.written out.old) (K.written out.new)
+        (SaysFirst (λ windows tabs. (D.tells → (first : State) → IsReady session_kind (D.history session).now first → Shows first windows tabs)) result.0.status) }
+    ensures cut { result.0.status ≡ Status.Write → IsRun (map string_bytes words.now) }
     ensures later { K.faults out.old ≤ K.faults out.new }
-    ensures done { D.tells → IsAtRest (D.history session.old).now → (D.history session.old).now.told ≡ 0 →
-        IfSome (S.left script.old) (λ text. IsDone result.status → HoldsCommands (D.history session.new).now text) }
-    ensures unchanged { LeavesDisk result.status → D.history session.new ≡ D.history session.old }
-    ensures not_called { CallsNoDisk result.status → session.new ≡ session.old }
-    ensures not_read { result.status ≡ Status.Usage → script.new ≡ script.old }
-    ensures crash { D.tells → IsBare (D.history session.old).now → (D.history session.old).now.told ≡ 0 →
-        IfSome (S.left script.old) (λ text. Leaves (D.history session.old) (D.history session.new) (IsGood start (issued text))) }
+    ensures done { D.tells → (first : State) → IsReady session_kind (D.history session).now first →
+        IfSome (S.left script.old) (λ text. IsDone result.0.status → HoldsCommands (D.history result.1).now first text) }
+    ensures not_called { CallsNoDisk result.0.status → result.1 ≡ session }
+    ensures not_read { result.0.status ≡ Status.Usage → script.new ≡ script.old }
+    ensures crash { D.tells → (first : State) → IsReady session_kind (D.history session).now first →
+        IfSome (S.left script.old) (λ text. Leaves (D.history session) (D.history result.1) (IsGood session_kind first (issued text))) }
 {
-    match attempt(alloc, words, script, out, session, clock) {
-        Ok(closing) => closing,
-        Err(status) => close(alloc, status),
-    }
+    let (status, session) = attempt(alloc, words, script, out, session, clock);
+    (close(alloc, status), session)
 }
 
-// The same, where an `Err` is an answer whose line isn't made yet.
+// The same, where the answer's line isn't made yet.
 fn attempt<S: Source, K: Sink, D: SessionDisk, C: Clock>(
     alloc: Global,
     words: &[String],
     script: &mut S,
     out: &mut K,
-    session: &mut D,
+    session: D,
     clock: &mut C,
-) -> Result<Closing, Status>
+) -> (Status, D)
     ensures cause { Cause
-        (record { words = map string_bytes words.now; text = S.left script.old; newest = λ r. (D.tells → IsNewestBelow (D.history session.old).now.standing None r) })
-        (record { source = S.faults script.old; sink = K.faults out.old; disk = D.failed session.old })
-        (record { source = S.faults script.new; sink = K.faults out.new; disk = D.failed session.new })
-        (status_of result) }
-    ensures line { IfOk result (λ closing. string_bytes closing.line ≡ last_line closing.status) }
-    ensures output { Prints (K.written out.old) (K.written out.new) (SaysFirst (status_of result)) }
-    ensures cut { status_of result ≡ Status.Write → is_run (map string_bytes words.now) ≡ true }
+        (record { words = map string_bytes words.now; text = S.left script.old; stands = λ stamp. (D.tells → IsSome ((D.history result.1).now.standing stamp)) })
+        (record { source = S.faults script.old; sink = K.faults out.old; disk = D.failed session })
+        (record { source = S.faults script.new; sink = K.faults out.new; disk = D.failed result.1 })
+        result.0 }
+    ensures output { Prints (K.written out.old) (K.written out.new)
+        (SaysFirst (λ windows tabs. (D.tells → (first : State) → IsReady session_kind (D.history session).now first → Shows first windows tabs)) result.0) }
+    ensures cut { result.0 ≡ Status.Write → IsRun (map string_bytes words.now) }
     ensures later { K.faults out.old ≤ K.faults out.new }
-    ensures done { D.tells → IsAtRest (D.history session.old).now → (D.history session.old).now.told ≡ 0 →
-        IfSome (S.left script.old) (λ text. IsDone (status_of result) → HoldsCommands (D.history session.new).now text) }
-    ensures unchanged { LeavesDisk (status_of result) → D.history session.new ≡ D.history session.old }
-    ensures not_called { CallsNoDisk (status_of result) → session.new ≡ session.old }
-    ensures not_read { status_of result ≡ Status.Usage → script.new ≡ script.old }
-    ensures crash { D.tells → IsBare (D.history session.old).now → (D.history session.old).now.told ≡ 0 →
-        IfSome (S.left script.old) (λ text. Leaves (D.history session.old) (D.history session.new) (IsGood start (issued text))) }
+    ensures done { D.tells → (first : State) → IsReady session_kind (D.history session).now first →
+        IfSome (S.left script.old) (λ text. IsDone result.0 → HoldsCommands (D.history result.1).now first text) }
+    ensures not_called { CallsNoDisk result.0 → result.1 ≡ session }
+    ensures not_read { result.0 ≡ Status.Usage → script.new ≡ script.old }
+    ensures crash { D.tells → (first : State) → IsReady session_kind (D.history session).now first →
+        IfSome (S.left script.old) (λ text. Leaves (D.history session) (D.history result.1) (IsGood session_kind first (issued text))) }
 {
-    let text = match read(alloc, words, script) {
-        Ok(text) => text,
-        Err(status) => return Err(status),
+    let order = match read(alloc, words, script) {
+        Ok(order) => order,
+        Err(status) => return (status, session),
     };
-    if let Err(status) = require_empty(session) {
-        return Err(status);
-    }
-    if write_whole(out, START_LINE).is_err() {
-        return Err(Status::Write);
-    }
-    let file = match session_file(alloc, &text) {
-        Ok(file) => file,
-        Err(status) => return Err(status),
-    };
-    let done = Status::Done {
-        session: file.commands,
-        tabs: 0,
-    };
-    let line = match done.last_line(alloc) {
-        Ok(line) => line,
-        Err(_) => return Err(Status::Memory),
-    };
-    match lay(session, clock.now(), &file) {
-        Ok(()) => Ok(Closing { status: done, line }),
-        Err(DiskError::Failed) => Err(Status::Disk(Family::Session)),
-        Err(DiskError::Memory) => Err(Status::Memory),
+    match Journal::<SessionMachine, D>::open(alloc, session, clock, order.limits) {
+        Ok(journal) => {
+            let mut journal = journal;
+            let status = run_over(alloc, &mut journal, out, clock, &order.text);
+            (status, journal.close())
+        }
+        Err((session, fault)) => (status_of(fault), session),
     }
 }
 
-// The script of words that ask for a run.
-fn read<S: Source>(alloc: Global, words: &[String], script: &mut S) -> Result<Vec<u8>, Status>
+// The script and the limits of words that ask for a run.
+fn read<S: Source>(alloc: Global, words: &[String], script: &mut S) -> Result<Order, Status>
     ensures read { MatchResult result
-        (λ text. (is_run (map string_bytes words.now) ≡ true) × (length text.items ≤ script_max) × IfSome (S.left script.old) (λ all. text.items ≡ all))
+        (λ order. (limits_of (map string_bytes words.now) ≡ Some (options order.limits)) × (length order.text.items ≤ script_max) × IfSome (S.left script.old) (λ all. order.text.items ≡ all))
         (ReadCause (map string_bytes words.now) (S.left script.old) (S.faults script.old) (S.faults script.new)) }
     ensures untouched { IsErrOf result Status.Usage → script.new ≡ script.old }
     ensures later { S.faults script.old ≤ S.faults script.new }
 {
-    if !is_run(words) {
+    let Some(limits) = read_words(words) else {
         return Err(Status::Usage);
-    }
+    };
     match read_script(alloc, script) {
-        Ok(text) => Ok(text),
+        Ok(text) => Ok(Order { text, limits }),
         Err(ScriptFault::Failed) => Err(Status::Read),
         Err(ScriptFault::TooLong) => Err(Status::TooLong {
             what: Long::Script,
@@ -181,52 +178,87 @@ fn read<S: Source>(alloc: Global, words: &[String], script: &mut S) -> Result<Ve
     }
 }
 
-// Refuses a disk on which a file stands.
-fn require_empty<D: SessionDisk>(session: &mut D) -> Result<(), Status>
-    ensures empty { MatchResult result
-        (λ _. D.tells → IsNewestBelow (D.history session.old).now.standing None None)
-        (EmptyCause D.tells (D.history session.old).now.standing (D.failed session.old) (D.failed session.new)) }
-    ensures unchanged { D.history session.new ≡ D.history session.old }
-    ensures later { D.failed session.old ≤ D.failed session.new }
+// The run of a script over a journal that was opened.
+fn run_over<K: Sink, D: SessionDisk, C: Clock>(
+    alloc: Global,
+    journal: &mut Journal<SessionMachine, D>,
+    out: &mut K,
+    clock: &mut C,
+    text: &[u8],
+) -> Status
+    requires works { journal.old.failed ≡ None }
+    requires none_written { journal.old.present.count ≡ 0 }
+    requires short { length text.now ≤ script_max }
+    ensures cause { JournalCause text.now journal.old.limits.max_file (λ stamp. (D.tells → IsSome ((D.history journal.new.disk).now.standing stamp)))
+        (record { source = 0; sink = K.faults out.old; disk = D.failed journal.old.disk })
+        (record { source = 0; sink = K.faults out.new; disk = D.failed journal.new.disk })
+        result }
+    ensures output { Prints (K.written out.old) (K.written out.new) (SaysFirst (Shows journal.old.present.state) result) }
+    ensures later { K.faults out.old ≤ K.faults out.new }
+    ensures done { D.tells → (first : State) → Continues (D.history journal.old.disk).now journal.old.present journal.old.pending.items first [] →
+        IsDone result → HoldsCommands (D.history journal.new.disk).now first text.now }
+    ensures crash { D.tells → (first : State) → Continues (D.history journal.old.disk).now journal.old.present journal.old.pending.items first [] →
+        Leaves (D.history journal.old.disk) (D.history journal.new.disk) (IsGood session_kind first (issued text.now)) }
 {
-    match session.newest_below(None) {
-        Ok(None) => Ok(()),
-        Ok(Some(stamp)) => Err(Status::NotEmpty { stamp }),
-        Err(DiskError::Failed) => Err(Status::Disk(Family::Session)),
-        Err(DiskError::Memory) => Err(Status::Memory),
+    if let Err(status) = say_start(alloc, journal.state(), out) {
+        return status;
+    }
+    match issue_script(journal, clock, text) {
+        Ok(refused) => answer_of(refused, journal.count()),
+        Err(fault) => status_of(fault),
     }
 }
 
-// The file that the script makes.
-fn session_file(alloc: Global, text: &[u8]) -> Result<SessionFile, Status>
-    requires { length text.now ≤ script_max }
-    ensures file { MatchResult result (λ file. IsFileOf text.now file.bytes.items file.commands) (FileCause text.now) }
+// Writes the line of a start in this state.
+fn say_start<K: Sink>(alloc: Global, state: &SessionState, out: &mut K) -> Result<(), Status>
+    ensures output { Prints (K.written out.old) (K.written out.new) (SaysStart (Shows state.now) result) }
+    ensures cause { MatchResult result (λ _. Unit {0}) (StartCause (K.faults out.old) (K.faults out.new)) }
+    ensures later { K.faults out.old ≤ K.faults out.new }
 {
-    match build(alloc, text) {
-        Ok(file) => Ok(file),
-        Err(FileFault::Refused { line }) => Err(Status::Refused {
+    let Ok(counts) = shown_counts(alloc, state) else {
+        return Err(Status::Memory);
+    };
+    let Ok(line) = start_line(alloc, counts.windows, counts.tabs) else {
+        return Err(Status::Memory);
+    };
+    match write_whole(out, line.as_bytes()) {
+        Ok(()) => Ok(()),
+        Err(_) => Err(Status::Write),
+    }
+}
+
+// The answer to a script in which nothing failed.
+fn answer_of(refused: Option<u64>, commands: u64) -> Status
+    ensures { result ≡ answer_of refused commands }
+{
+    match refused {
+        Some(line) => Status::Refused {
             line,
             why: Why::NotBuilt,
-        }),
-        Err(FileFault::Memory) => Err(Status::Memory),
+        },
+        None => Status::Done {
+            session: commands,
+            tabs: 0,
+        },
     }
 }
 
-// Makes the file under the stamp, safe and told, on a disk without files.
-fn lay<D: SessionDisk>(session: &mut D, stamp: u64, file: &SessionFile) -> Result<(), DiskError>
-    requires in_range { stamp < 2 ^ 63 }
-    requires nothing { D.tells → (s : ℕ) → (D.history session.old).now.standing s ≡ None }
-    ensures cause { DiskHasCause (D.failed session.old) (D.failed session.new) result }
-    ensures laid { D.tells → IsBare (D.history session.old).now → (D.history session.old).now.told ≡ 0 → (text : List ℕ) → IsFileOf text file.now.bytes.items file.now.commands →
-        OnOk result (HoldsCommands (D.history session.new).now text) }
-    ensures crash { D.tells → IsBare (D.history session.old).now → (D.history session.old).now.told ≡ 0 → (text : List ℕ) → IsFileOf text file.now.bytes.items file.now.commands →
-        Leaves (D.history session.old) (D.history session.new) (IsGood start (issued text)) }
+// A journal's fault as an answer.
+fn status_of(fault: JournalFault) -> Status
+    ensures { result ≡ status_of fault }
 {
-    session.create(stamp)?;
-    session.append(stamp, &file.bytes)?;
-    session.sync(stamp)?;
-    session.settle()?;
-    session.tell(file.commands)
+    match fault {
+        JournalFault::AlreadyFailed(_) | JournalFault::Disk => Status::Disk(Family::Session),
+        JournalFault::TooLong { needed } => Status::TooLong {
+            what: Long::File(Family::Session),
+            needed,
+        },
+        JournalFault::LastStamp { stamp } => Status::LastStamp {
+            family: Family::Session,
+            stamp,
+        },
+        JournalFault::Memory => Status::Memory,
+    }
 }
 
 // The answer with its line; for want of memory, that answer.

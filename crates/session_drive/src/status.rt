@@ -1,6 +1,7 @@
 //! The answers of a run, their exit codes and their lines.
 ghost use Rattle.std.specs.Prelude.{◌≡◌, IfOk, IsOk};
 ghost use Rattle.std.specs.String.{string_bytes};
+ghost use Rattle.session_drive.specs.Outcome.{family_name, start_line};
 
 use session_disk::Family;
 use std::alloc::{AllocError, Global};
@@ -16,6 +17,8 @@ pub enum Why {
 #[derive(Clone, Copy, Debug, PartialEq, Eq)]
 pub enum Long {
     Script,
+    /// The file of this family.
+    File(Family),
 }
 
 /// The answer of a run.
@@ -27,8 +30,6 @@ pub enum Status {
     Usage,
     /// The line with this number, counted from 1, is the first that is refused.
     Refused { line: u64, why: Why },
-    /// A session file stands on the disk; this is the greatest stamp.
-    NotEmpty { stamp: u64 },
     /// The disk of this family failed.
     Disk(Family),
     /// The source failed.
@@ -39,6 +40,8 @@ pub enum Status {
     TooLong { what: Long, needed: u64 },
     /// Memory ran out.
     Memory,
+    /// The newest file of this family has the last stamp there is, and no file can follow it.
+    LastStamp { family: Family, stamp: u64 },
 }
 
 impl Status {
@@ -57,7 +60,7 @@ impl Status {
             Status::Write => 6,
             Status::TooLong { .. } => 7,
             Status::Memory => 8,
-            Status::NotEmpty { .. } => 10,
+            Status::LastStamp { .. } => 9,
         }
     }
 
@@ -83,16 +86,50 @@ impl Status {
                 line,
                 why: Why::NotBuilt,
             } => format!(in alloc; "refused {line} not-built\n"),
-            Status::NotEmpty { stamp } => format!(in alloc; "not-empty {stamp}\n"),
             Status::Disk(Family::Session) => String::from_str(alloc, "fault disk session\n"),
             Status::Disk(Family::Tabs) => String::from_str(alloc, "fault disk tabs\n"),
             Status::Read => String::from_str(alloc, "fault read\n"),
             Status::Write => Ok(String::new(alloc)),
-            Status::TooLong {
-                what: Long::Script,
-                needed,
-            } => format!(in alloc; "fault too-long script {needed}\n"),
+            Status::TooLong { what, needed } => {
+                let name = what.name();
+                format!(in alloc; "fault too-long {name} {needed}\n")
+            }
             Status::Memory => String::from_str(alloc, "fault memory\n"),
+            Status::LastStamp { family, stamp } => {
+                let name = family_name(family);
+                format!(in alloc; "fault last-stamp {name} {stamp}\n")
+            }
         }
     }
+}
+
+impl Long {
+    ghost use Rattle.session_drive.specs.Outcome.{long_name};
+
+    // What is too long, as a line names it.
+    fn name(self) -> &'static str
+        ensures { result.now ≡ long_name self }
+    {
+        match self {
+            Long::Script => "script",
+            Long::File(family) => family_name(family),
+        }
+    }
+}
+
+// A family, as a line names it.
+fn family_name(family: Family) -> &'static str
+    ensures { result.now ≡ family_name family }
+{
+    match family {
+        Family::Session => "session",
+        Family::Tabs => "tabs",
+    }
+}
+
+/// The line of a start with these many windows and tabs, with its line feed.
+pub fn start_line(alloc: Global, windows: u64, tabs: u64) -> Result<String, AllocError>
+    ensures { IfOk result (λ line. string_bytes line ≡ start_line windows tabs) }
+{
+    format!(in alloc; "start {windows} {tabs} 0\n")
 }

@@ -27,17 +27,21 @@ fn list_of(rt: HostRuntime, words: &[&str]) -> Result<Vec<String>, AllocError> {
     Ok(list)
 }
 
+// Runs a script, with these options, over a disk.
 fn run_on(
     rt: HostRuntime,
+    options: &[&str],
     script: &[u8],
     session: MemoryDisk,
-    reads: &[u64],
-    writes: &[u64],
 ) -> Result<Run, AllocError> {
     let alloc = rt.alloc();
-    let words = list_of(rt, &["run", "--inline", "d"])?;
-    let mut source = MemorySource::new(alloc, script, reads)?;
-    let mut sink = MemorySink::new(alloc, writes)?;
+    let mut words = list_of(rt, &["run", "--inline"])?;
+    for option in options {
+        words.push(option.to_string(alloc)?)?;
+    }
+    words.push("d".to_string(alloc)?)?;
+    let mut source = MemorySource::new(alloc, script, &[])?;
+    let mut sink = MemorySink::new(alloc, &[])?;
     let tabs = MemoryDisk::empty(alloc)?;
     let (status, session, _tabs) = drive_inline(
         alloc,
@@ -58,7 +62,7 @@ fn run_on(
 
 #[test]
 fn a_tab_makes_a_synced_file_that_is_told(rt: HostRuntime) -> Result<(), Fail> {
-    let run = run_on(rt, b"tab 1 2\n", MemoryDisk::empty(rt.alloc())?, &[], &[])?;
+    let run = run_on(rt, &[], b"tab 1 2\n", MemoryDisk::empty(rt.alloc())?)?;
     assert_eq!(rt;
         run.status,
         Status::Done {
@@ -77,8 +81,10 @@ fn a_tab_makes_a_synced_file_that_is_told(rt: HostRuntime) -> Result<(), Fail> {
 }
 
 #[test]
-fn an_empty_script_makes_a_file_without_commands(rt: HostRuntime) -> Result<(), Fail> {
-    let run = run_on(rt, b"", MemoryDisk::empty(rt.alloc())?, &[], &[])?;
+fn a_second_run_restates_the_first_one(rt: HostRuntime) -> Result<(), Fail> {
+    let mut session = MemoryDisk::empty(rt.alloc())?;
+    session.add_file(100, &FIRST_FILE)?;
+    let run = run_on(rt, &[], b"", session)?;
     assert_eq!(rt;
         run.status,
         Status::Done {
@@ -86,88 +92,53 @@ fn an_empty_script_makes_a_file_without_commands(rt: HostRuntime) -> Result<(), 
             tabs: 0
         }
     );
+    assert_eq!(rt; run.said.as_slice(), b"start 0 0 0\ndone 0 0\n".as_slice());
     let files = run.session.files();
     assert_eq!(rt; files.len(), 1);
-    assert_eq!(rt; files[0].bytes.as_slice(), &FIRST_FILE[..11]);
+    assert_eq!(rt; files[0].stamp, 101);
     Ok(())
 }
 
 #[test]
-fn a_line_that_is_no_tab_makes_no_file(rt: HostRuntime) -> Result<(), Fail> {
-    for (script, line) in [
-        (b"tab 1 2\nfly 1\n".as_slice(), 2),
-        (b"\n", 1),
-        (b"# note\n", 1),
-        (b"tab 1 2\n\n", 2),
-        (b"tab 1 2 ", 1),
-        (b"tab  1 2", 1),
-        (b" tab 1 2", 1),
-        (b"tab 1 02", 1),
-        (b"tab 0 2", 1),
-        (b"tab 1 2147483648", 1),
-        (b"tab 1 2\r\n", 1),
-        (b"tab 1 \xFF", 1),
-    ] {
-        let run = run_on(rt, script, MemoryDisk::empty(rt.alloc())?, &[], &[])?;
-        let why = Why::NotBuilt;
-        assert_eq!(rt; run.status, Status::Refused { line, why });
-        let said = format!(in rt.alloc(); "start 0 0 0\nrefused {line} not-built\n")?;
-        assert_eq!(rt; run.said.as_slice(), said.as_bytes());
-        assert_eq!(rt; run.session.files().len(), 0);
-    }
-    Ok(())
-}
-
-#[test]
-fn a_disk_with_a_file_is_left_as_it_is(rt: HostRuntime) -> Result<(), Fail> {
-    let mut session = MemoryDisk::empty(rt.alloc())?;
-    session.add_file(7, b"old")?;
-    let run = run_on(rt, b"tab 1 2", session, &[], &[])?;
-    assert_eq!(rt; run.status, Status::NotEmpty { stamp: 7 });
-    assert_eq!(rt; run.said.as_slice(), b"not-empty 7\n".as_slice());
+fn a_refused_line_leaves_the_lines_before_it_told(rt: HostRuntime) -> Result<(), Fail> {
+    let run = run_on(
+        rt,
+        &[],
+        b"tab 1 2\nfly 1\ntab 1 3\n",
+        MemoryDisk::empty(rt.alloc())?,
+    )?;
+    let why = Why::NotBuilt;
+    assert_eq!(rt; run.status, Status::Refused { line: 2, why });
+    assert_eq!(rt;
+        run.said.as_slice(),
+        b"start 0 0 0\nrefused 2 not-built\n".as_slice()
+    );
     let files = run.session.files();
     assert_eq!(rt; files.len(), 1);
-    assert_eq!(rt; files[0].bytes.as_slice(), b"old".as_slice());
+    assert_eq!(rt; files[0].bytes.as_slice(), FIRST_FILE.as_slice());
     Ok(())
 }
 
 #[test]
-fn failing_streams_are_named(rt: HostRuntime) -> Result<(), Fail> {
-    for (reads, writes, status, said, files) in [
-        (
-            [1].as_slice(),
-            [].as_slice(),
-            Status::Read,
-            "fault read\n",
-            0,
-        ),
-        (
-            [2].as_slice(),
-            [].as_slice(),
-            Status::Read,
-            "fault read\n",
-            0,
-        ),
-        ([].as_slice(), [1].as_slice(), Status::Write, "", 0),
-        (
-            [].as_slice(),
-            [2].as_slice(),
-            Status::Write,
-            "start 0 0 0\n",
-            1,
-        ),
-    ] {
-        let run = run_on(
-            rt,
-            b"tab 1 2",
-            MemoryDisk::empty(rt.alloc())?,
-            reads,
-            writes,
-        )?;
-        assert_eq!(rt; run.status, status);
-        assert_eq!(rt; run.said.as_slice(), said.as_bytes());
-        assert_eq!(rt; run.session.files().len(), files);
-    }
+fn every_second_command_makes_a_rotation_due(rt: HostRuntime) -> Result<(), Fail> {
+    let script = b"tab 1 2\ntab 1 3\ntab 1 4\n";
+    let run = run_on(
+        rt,
+        &["--every", "2"],
+        script,
+        MemoryDisk::empty(rt.alloc())?,
+    )?;
+    assert_eq!(rt;
+        run.status,
+        Status::Done {
+            session: 3,
+            tabs: 0
+        }
+    );
+    let files = run.session.files();
+    assert_eq!(rt; files.len(), 1);
+    assert_eq!(rt; files[0].stamp, 101);
+    assert_eq!(rt; files[0].synced, files[0].bytes.as_slice().len() as u64);
     Ok(())
 }
 
@@ -177,11 +148,11 @@ fn other_words_open_nothing(rt: HostRuntime) -> Result<(), Fail> {
     for words in [
         [].as_slice(),
         &["run"],
-        &["run", "d"],
         &["run", "--inline"],
         &["run", "--inline", ""],
         &["run", "--inline", "-d"],
         &["run", "--inline", "d", "e"],
+        &["run", "--every", "0", "d"],
         &["fly", "--inline", "d"],
     ] {
         let words = list_of(rt, words)?;
@@ -248,7 +219,13 @@ fn each_answer_has_its_code(rt: HostRuntime) {
         (Status::Usage, 2),
         (Status::Disk(Family::Session), 4),
         (Status::Memory, 8),
-        (Status::NotEmpty { stamp: 7 }, 10),
+        (
+            Status::LastStamp {
+                family: Family::Session,
+                stamp: 7,
+            },
+            9,
+        ),
     ] {
         assert_eq!(rt; status.code(), code);
     }

@@ -1,0 +1,41 @@
+//! How many windows and tabs a user sees of a state. Stands on window_state.
+ghost use Rattle.std.specs.Prelude.{◌≡◌, ◌<◌, ◌^◌, IfOk};
+ghost use Rattle.session_drive.specs.Shown.{tab_count, Shows};
+
+use std::alloc::{AllocError, Global};
+use window_state::{SessionState, ViewWindow, view};
+
+/// The windows and the tabs of a view.
+#[derive(Clone, Copy, Debug, PartialEq, Eq)]
+pub struct Counts {
+    pub windows: u64,
+    pub tabs: u64,
+}
+
+/// What is shown of a state. It takes the time and memory of its view.
+#[tactic(auto, using(crate::proofs::ShownLaws::few_tabs))]
+pub fn shown_counts(alloc: Global, state: &SessionState) -> Result<Counts, AllocError>
+    ensures { IfOk result (λ counts. Shows state.now counts.windows counts.tabs) }
+{
+    state.known();
+    let view = view(alloc, state)?;
+    let windows = view.windows.as_slice();
+    Ok(Counts {
+        windows: windows.len() as u64,
+        tabs: count_tabs(windows),
+    })
+}
+
+// The tabs of all these windows.
+fn count_tabs(windows: &[ViewWindow]) -> u64
+    requires { tab_count windows.now < 2 ^ 64 }
+    ensures { result ≡ tab_count windows.now }
+{
+    let mut count = 0;
+    let mut rest = windows;
+    while let [window, others @ ..] = rest {
+        count += window.tabs.as_slice().len() as u64;
+        rest = others;
+    }
+    count
+}
