@@ -27,7 +27,7 @@ def measure(more):
         write_script(path, more)
         with open(path, "rb") as script:
             begun = time.monotonic()
-            done = subprocess.run([LAUNCHER, "run", "--inline", folder], stdin=script, stdout=subprocess.PIPE, check=False)
+            done = subprocess.run([LAUNCHER, "run", folder], stdin=script, stdout=subprocess.PIPE, check=False)
             seconds = time.monotonic() - begun
     last = done.stdout.decode().splitlines()[-1]
     # The peak is that of the largest child so far, so the smaller run comes first.
