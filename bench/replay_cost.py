@@ -21,6 +21,7 @@ PROGRAM = """\
 
 use replay_machine::apply;
 use session_commands::SessionCommand;
+use std::alloc::{AllocError, Global};
 use std::process::ExitCode;
 use std::time::Instant;
 use std::{env, io};
@@ -46,22 +47,33 @@ fn run(rt: HostRuntime) -> Result<(), io::Error> {
         Some(list) => list,
         None => return Ok(()),
     };
-    let mut state = SessionState::start(rt.alloc())?;
-    if list.as_str() == "closing" {
+    let state = standing(rt.alloc(), list.as_str())?;
+    let start = Instant::now(&rt)?;
+    let state = replayed(state, list.as_str(), steps)?;
+    let took = start.elapsed(&rt)?;
+    println!(rt; "{} {}", took.as_nanos(), state.tabs().len())?;
+    Ok(())
+}
+
+// The tabs that stand before the list begins.
+fn standing(alloc: Global, list: &str) -> Result<SessionState, AllocError> {
+    let mut state = SessionState::start(alloc)?;
+    if list == "closing" {
         for tab in 0..STANDING {
             apply(&mut state, &SessionCommand::TabWindow { window: 0, tab })?;
         }
     }
-    let start = Instant::now(&rt)?;
+    Ok(state)
+}
+
+fn replayed(state: SessionState, list: &str, steps: i32) -> Result<SessionState, AllocError> {
+    let mut state = state;
     let mut seed: u64 = 7;
     for step in 0..steps {
         seed = seed.wrapping_mul(6364136223846793005).wrapping_add(1442695040888963407);
-        let command = command_of(list.as_str(), step, steps, seed);
-        apply(&mut state, &command)?;
+        apply(&mut state, &command_of(list, step, steps, seed))?;
     }
-    let took = start.elapsed(&rt)?;
-    println!(rt; "{} {}", took.as_nanos(), state.tabs().len())?;
-    Ok(())
+    Ok(state)
 }
 
 fn command_of(list: &str, step: i32, steps: i32, seed: u64) -> SessionCommand {
