@@ -19,6 +19,8 @@ PROGRAM = """\
 //! Replays a generated list of commands and prints the nanoseconds that it took.
 #![tactic(auto)]
 
+ghost use Rattle.session_commands.specs.Table.{IsSound};
+
 use replay_machine::apply;
 use session_commands::SessionCommand;
 use std::alloc::{AllocError, Global};
@@ -76,7 +78,9 @@ fn replayed(state: SessionState, list: &str, steps: i32) -> Result<SessionState,
     Ok(state)
 }
 
-fn command_of(list: &str, step: i32, steps: i32, seed: u64) -> SessionCommand {
+fn command_of(list: &str, step: i32, steps: i32, seed: u64) -> SessionCommand
+    ensures { IsSound result }
+{
     let window = step.wrapping_rem(1000).wrapping_add(1);
     if list == "rising" {
         return SessionCommand::TabWindow { window, tab: step };
