@@ -10,6 +10,3 @@ mod weight;
 mod window;
 
 pub use machine::SessionMachine;
-
-#[cfg(test)]
-mod tests;

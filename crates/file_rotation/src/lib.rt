@@ -15,6 +15,3 @@ pub use clearing::clear_older;
 pub use fault::RotateFault;
 pub use recovery::{Recovered, recover};
 pub use stamp::{LastStamp, fresh_stamp};
-
-#[cfg(test)]
-mod tests;

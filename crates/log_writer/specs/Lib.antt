@@ -4,7 +4,6 @@ pub mod Lay
 pub mod Rotation
 pub mod Journals
 pub mod Faults
-pub mod Dial
 pub use Rattle.machine_law.specs.Kind
 pub use Rattle.session_disk.specs.Causes
 pub use Rattle.session_disk.specs.Moments

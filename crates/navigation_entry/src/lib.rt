@@ -20,6 +20,3 @@ pub use more::{InfoPair, InfoPairs, More};
 pub use navigation::Navigation;
 pub use reading::{read_navigation, write_navigation};
 pub use reference::NavigationRef;
-
-#[cfg(test)]
-mod tests;

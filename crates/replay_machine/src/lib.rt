@@ -4,6 +4,3 @@
 mod steps;
 
 pub use steps::apply;
-
-#[cfg(test)]
-mod tests;

@@ -16,6 +16,3 @@ mod raw;
 pub use command::SessionCommand;
 pub use fault::PayloadFault;
 pub use raw::RawCommand;
-
-#[cfg(test)]
-mod tests;

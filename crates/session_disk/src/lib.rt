@@ -30,6 +30,3 @@ pub use memory_disk::MemoryDisk;
 pub use memory_stream::{MemorySink, MemorySource};
 pub use std_stream::{StdSink, StdSource};
 pub use stream::{Sink, Source};
-
-#[cfg(test)]
-mod tests;

@@ -34,6 +34,3 @@ pub use tab::{Tab, TabInfo};
 pub use view_parts::{View, ViewTab, ViewWindow};
 pub use viewing::view;
 pub use window::{Window, WindowInfo};
-
-#[cfg(test)]
-mod tests;

@@ -1,7 +1,7 @@
 use Rattle.std.proofs.Common.{◌≡◌}
 use Rattle.session_disk.specs.Moments.{IsAtRest}
 use Rattle.session_disk.specs.MemoryDisks.{history_of}
-use Rattle.file_rotation.proofs.tests.disk_of.Given as goal
+use Rattle.storage_tests.proofs.disks.resting.Given as goal
 
 abbrev pub invariant-loop-stamp : goal.invariant-loop-stamp
 invariant-loop-stamp l = record {
