@@ -1,7 +1,6 @@
-use Rattle.std.proofs.Common.{ℕ, Bool, true, false, ◌≡◌, [], ◌∷◌, refl, sym, ap, ◌∙◌, subst, arith}
+use Rattle.std.proofs.Common.{ℕ, Bool, true, false, [], ◌∷◌, refl, sym, ◌∙◌, subst, arith}
 use Rattle.session_disk.proofs.Leaves.{Leaves-refl}
-use Rattle.log_writer.specs.Fresh.{frame_length}
-use Rattle.log_writer.specs.Faults.{is_due, RefusesLength, KeepsFirst}
+use Rattle.log_writer.specs.Faults.{RefusesLength, KeepsFirst}
 use Rattle.log_writer.proofs.FaultLaws.{frame_size}
 use Rattle.log_writer.proofs.JournalLaws.{keeps_now}
 use Rattle.log_writer.proofs.WritingLaws.{follows_refused, remains_same, leaves_more}
