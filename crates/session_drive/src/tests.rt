@@ -1,10 +1,15 @@
+//! Tests of whole runs, over disks in memory and a real folder.
+ghost use Rattle.std.specs.Prelude.{◌<◌, ◌^◌};
+
+mod failing_calls;
+
 use super::*;
 use crate::status::Why;
 use session_commands::SessionCommand;
 use session_disk::{FixedClock, MemoryDisk, MemorySink, MemorySource};
 use snss_frames::{first_frame, write_frame};
+use std::alloc::Global;
 use std::fs;
-use std::process::Abort;
 use std::test::Fail;
 
 /// Header, marker, and the frame of tab 2 in window 1.
@@ -19,23 +24,31 @@ struct Run {
     session: MemoryDisk,
 }
 
-fn list_of(rt: HostRuntime, words: &[&str]) -> Result<Vec<String>, AllocError> {
-    let mut list = Vec::new(rt.alloc());
+fn list_of(alloc: Global, words: &[&str]) -> Result<Vec<String>, AllocError> {
+    let mut list = Vec::new(alloc);
     for word in words {
-        list.push(word.to_string(rt.alloc())?)?;
+        list.push(word.to_string(alloc)?)?;
     }
     Ok(list)
 }
 
+// A disk at rest with one file.
+fn disk_with(alloc: Global, stamp: u64, bytes: &[u8]) -> Result<MemoryDisk, AllocError>
+    requires { stamp < 2 ^ 63 }
+{
+    let mut disk = MemoryDisk::empty(alloc)?;
+    disk.add_file(stamp, bytes)?;
+    Ok(disk)
+}
+
 // Runs a script, with these options, over a disk.
 fn run_on(
-    rt: HostRuntime,
+    alloc: Global,
     options: &[&str],
     script: &[u8],
     session: MemoryDisk,
 ) -> Result<Run, AllocError> {
-    let alloc = rt.alloc();
-    let mut words = list_of(rt, &["run", "--inline"])?;
+    let mut words = list_of(alloc, &["run", "--inline"])?;
     for option in options {
         words.push(option.to_string(alloc)?)?;
     }
@@ -62,7 +75,12 @@ fn run_on(
 
 #[test]
 fn a_tab_makes_a_synced_file_that_is_told(rt: HostRuntime) -> Result<(), Fail> {
-    let run = run_on(rt, &[], b"tab 1 2\n", MemoryDisk::empty(rt.alloc())?)?;
+    let run = run_on(
+        rt.alloc(),
+        &[],
+        b"tab 1 2\n",
+        MemoryDisk::empty(rt.alloc())?,
+    )?;
     assert_eq!(rt;
         run.status,
         Status::Done {
@@ -82,9 +100,12 @@ fn a_tab_makes_a_synced_file_that_is_told(rt: HostRuntime) -> Result<(), Fail> {
 
 #[test]
 fn a_second_run_restates_the_first_one(rt: HostRuntime) -> Result<(), Fail> {
-    let mut session = MemoryDisk::empty(rt.alloc())?;
-    session.add_file(100, &FIRST_FILE)?;
-    let run = run_on(rt, &[], b"", session)?;
+    let run = run_on(
+        rt.alloc(),
+        &[],
+        b"",
+        disk_with(rt.alloc(), 100, &FIRST_FILE)?,
+    )?;
     assert_eq!(rt;
         run.status,
         Status::Done {
@@ -102,7 +123,7 @@ fn a_second_run_restates_the_first_one(rt: HostRuntime) -> Result<(), Fail> {
 #[test]
 fn a_refused_line_leaves_the_lines_before_it_told(rt: HostRuntime) -> Result<(), Fail> {
     let run = run_on(
-        rt,
+        rt.alloc(),
         &[],
         b"tab 1 2\nfly 1\ntab 1 3\n",
         MemoryDisk::empty(rt.alloc())?,
@@ -121,9 +142,9 @@ fn a_refused_line_leaves_the_lines_before_it_told(rt: HostRuntime) -> Result<(),
 
 #[test]
 fn every_second_command_makes_a_rotation_due(rt: HostRuntime) -> Result<(), Fail> {
-    let script = b"tab 1 2\ntab 1 3\ntab 1 4\n";
+    let script = b"tab 1 1\ntab 1 2\ntab 1 3\ntab 1 4\ntab 1 5\n";
     let run = run_on(
-        rt,
+        rt.alloc(),
         &["--every", "2"],
         script,
         MemoryDisk::empty(rt.alloc())?,
@@ -131,14 +152,16 @@ fn every_second_command_makes_a_rotation_due(rt: HostRuntime) -> Result<(), Fail
     assert_eq!(rt;
         run.status,
         Status::Done {
-            session: 3,
+            session: 5,
             tabs: 0
         }
     );
+    assert_eq!(rt; run.said.as_slice(), b"start 0 0 0\ndone 5 0\n".as_slice());
+    // Header, a window and four tabs restated, marker, and the fifth tab.
     let files = run.session.files();
     assert_eq!(rt; files.len(), 1);
-    assert_eq!(rt; files[0].stamp, 101);
-    assert_eq!(rt; files[0].synced, files[0].bytes.as_slice().len() as u64);
+    assert_eq!(rt; (files[0].stamp, files[0].synced), (102, 121));
+    assert_eq!(rt; files[0].bytes.as_slice().len(), 121);
     Ok(())
 }
 
@@ -155,7 +178,7 @@ fn other_words_open_nothing(rt: HostRuntime) -> Result<(), Fail> {
         &["run", "--every", "0", "d"],
         &["fly", "--inline", "d"],
     ] {
-        let words = list_of(rt, words)?;
+        let words = list_of(alloc, words)?;
         let mut source = MemorySource::new(alloc, b"tab 1 2", &[])?;
         let mut sink = MemorySink::new(alloc, &[])?;
         let (status, session, _tabs) = drive_inline(
@@ -179,7 +202,7 @@ fn a_real_folder_holds_the_same_bytes(rt: HostRuntime) -> Result<(), Fail> {
     let alloc = rt.alloc();
     let folder = "a_real_folder_holds_the_same_bytes";
     fs::create_dir(&rt, folder)?;
-    let words = list_of(rt, &["run", "--inline", folder])?;
+    let words = list_of(alloc, &["run", "--inline", folder])?;
     let mut source = MemorySource::new(alloc, b"tab 1 2\n", &[])?;
     let mut sink = MemorySink::new(alloc, &[])?;
     let (status, _session, _tabs) = drive_inline(
