@@ -4,9 +4,10 @@ use Rattle.session_disk.specs.Moments.{Moment}
 use Rattle.session_disk.specs.Histories.{History, Leaves}
 use Rattle.session_disk.proofs.Leaves.{Leaves-weaken}
 use Rattle.file_rotation.specs.Recovery.{IsGood}
-use Rattle.log_writer.specs.Account.{Account, Outcome}
+use Rattle.log_writer.specs.Account.{Account, Outcome, restated, opened}
 use Rattle.log_writer.specs.Journals.{IsReady, Advances}
 use Rattle.log_writer.specs.Faults.{answer}
+use Rattle.log_writer.specs.declared.limits.Limits.{Limits}
 use Rattle.log_writer.specs.declared.journal.Present.{Present}
 use Rattle.log_writer.specs.declared.fault.JournalFault.{JournalFault}
 use Rattle.log_writer.specs.declared.fault.JournalFault.TheVariants as fault
@@ -21,7 +22,8 @@ use Rattle.session_drive.specs.declared.status.Status.{Status}
 use Rattle.session_drive.specs.declared.status.Status.TheVariants.{Done, Usage, Refused, LastStamp, Disk, Read, Write, TooLong, Memory}
 use Rattle.session_drive.specs.TabLine.{issued, refused_line}
 use Rattle.session_drive.specs.Shown.{Shows}
-use Rattle.session_drive.specs.Issuing.{Continues}
+use Rattle.session_drive.specs.Issuing.{Beginning, Continues}
+use Rattle.session_drive.specs.Words.{Options, options}
 use Rattle.session_drive.specs.Script.{script_max}
 use Rattle.session_drive.specs.Outcome.{answer_of, unsaid}
 use Rattle.session_drive.specs.Run.{Faults, IsStart, Prints, IsDone}
@@ -58,9 +60,19 @@ pub told_text : (P : List ℕ → Type 0) (left : Option (List ℕ)) (text : Lis
 told_text P None text e h = tt
 told_text P (Some all) text e h = subst P e h
 
+-- the limits that the words ask for are those that were read
+pub words_so : (b : Beginning) (limits : Limits) (found : Option Options) → found ≡ Some b.options → found ≡ Some (options limits) → b.options ≡ options limits
+words_so b limits found e f = cc
+
 -- a journal that was opened goes on from the state to which the files read
-pub opened_on : (before m : Moment) (present : Present State) (pending : List ℕ) (a : Account State SessionCommand) (outcome : Outcome State SessionCommand) (first : State) → Advances session_kind before m present pending a outcome first [] → Continues m present pending first []
-opened_on before m present pending a outcome first h = (h.next, h.runs)
+pub opened_on : (b : Beginning) (limits : Limits) (before m : Moment) (present : Present State) (pending : List ℕ) → b.options ≡ options limits → b.creates ≡ before.creates →
+    Advances session_kind before m present pending (restated session_kind b.first 0) (opened session_kind limits.max_file b.first) b.first [] → Continues b m present pending []
+opened_on b limits before m present pending same creates next = record {
+  account = next.next;
+  is = ap (λ (o : Options). opened session_kind o.max_file b.first) same ∙ next.is;
+  made = omega (arith, creates, next.made);
+  runs = next.runs;
+}
 
 -- a disk that waits for a run leaves what is good
 pub ready_leaves : (left : Option (List ℕ)) (h : History) (first : State) → IsReady session_kind h.now first → IfSome left (λ text. Leaves h h (IsGood session_kind first (issued text)))
@@ -92,7 +104,15 @@ done_before : (R : Type 0) (status answer : Status) → (answer ≡ status) ⊎ 
 done_before R status answer (inl same) done = subst IsDone same done
 done_before R status answer (inr (other, _)) done = absurd (unsaid_not_done status (subst IsDone other done))
 
+-- nor does want of memory
+pub closed_before : (R : Type 0) (status answer : Status) → (answer ≡ status) ⊎ ((answer ≡ Memory) × R) → IsDone answer → IsDone status
+closed_before R status answer (inl same) done = subst IsDone same done
+closed_before R status answer (inr (other, _)) done = absurd (subst IsDone other done)
+
+pub done_as : (P : List ℕ → Type 0) (left : Option (List ℕ)) (status answer : Status) → (IsDone answer → IsDone status) → IfSome left (λ text. IsDone status → P text) → IfSome left (λ text. IsDone answer → P text)
+done_as P None status answer before h = tt
+done_as P (Some text) status answer before h = λ done. h (before done)
+
 pub done_said : (R : Type 0) (P : List ℕ → Type 0) (left : Option (List ℕ)) (status answer : Status) → (answer ≡ status) ⊎ ((answer ≡ unsaid status) × R) → IfSome left (λ text. IsDone status → P text) →
     IfSome left (λ text. IsDone answer → P text)
-done_said R P None status answer is h = tt
-done_said R P (Some text) status answer is h = λ done. h (done_before R status answer is done)
+done_said R P left status answer is h = done_as P left status answer (done_before R status answer is) h

@@ -10,7 +10,7 @@ ghost use Rattle.window_state.specs.States.{State};
 ghost use Rattle.compactor.specs.SessionKind.{session_kind};
 ghost use Rattle.session_drive.specs.TabLine.{issued};
 ghost use Rattle.session_drive.specs.Shown.{Shows};
-ghost use Rattle.session_drive.specs.Issuing.{Continues, HoldsCommands};
+ghost use Rattle.session_drive.specs.Issuing.{Beginning, Begins, Continues, HoldsCommands};
 ghost use Rattle.session_drive.specs.Script.{script_max};
 ghost use Rattle.session_drive.specs.Words.{limits_of, options};
 ghost use Rattle.session_drive.specs.Outcome.{answer_of, last_line, unsaid};
@@ -71,8 +71,8 @@ pub fn drive_inline<S: Source, K: Sink, D: SessionDisk, C: Clock>(
         (map string_bytes words.now) (S.left script.old) (Rose (K.faults out.old) (K.faults out.new)) result.0) }
 
     // What stands at the end.
-    ensures done { D.tells → (first : State) → IsReady session_kind (D.history session).now first →
-        IfSome (S.left script.old) (λ text. IsDone result.0 → HoldsCommands (D.history result.1).now first text) }
+    ensures done { D.tells → (b : Beginning) → Begins (map string_bytes words.now) (D.history session).now b →
+        IfSome (S.left script.old) (λ text. IsDone result.0 → HoldsCommands b (D.history result.1).now text) }
     ensures not_called { CallsNoDisk result.0 → result.1 ≡ session }
     ensures not_read { result.0 ≡ Status.Usage → script.new ≡ script.old }
     ensures tabs { result.2 ≡ tabs }
@@ -106,8 +106,8 @@ fn run<S: Source, K: Sink, D: SessionDisk, C: Clock>(
         (SaysFirst (λ windows tabs. (D.tells → (first : State) → IsReady session_kind (D.history session).now first → Shows first windows tabs)) result.0.status) }
     ensures cut { result.0.status ≡ Status.Write → IsRun (map string_bytes words.now) }
     ensures later { K.faults out.old ≤ K.faults out.new }
-    ensures done { D.tells → (first : State) → IsReady session_kind (D.history session).now first →
-        IfSome (S.left script.old) (λ text. IsDone result.0.status → HoldsCommands (D.history result.1).now first text) }
+    ensures done { D.tells → (b : Beginning) → Begins (map string_bytes words.now) (D.history session).now b →
+        IfSome (S.left script.old) (λ text. IsDone result.0.status → HoldsCommands b (D.history result.1).now text) }
     ensures not_called { CallsNoDisk result.0.status → result.1 ≡ session }
     ensures not_read { result.0.status ≡ Status.Usage → script.new ≡ script.old }
     ensures crash { D.tells → (first : State) → IsReady session_kind (D.history session).now first →
@@ -135,8 +135,8 @@ fn attempt<S: Source, K: Sink, D: SessionDisk, C: Clock>(
         (SaysFirst (λ windows tabs. (D.tells → (first : State) → IsReady session_kind (D.history session).now first → Shows first windows tabs)) result.0) }
     ensures cut { result.0 ≡ Status.Write → IsRun (map string_bytes words.now) }
     ensures later { K.faults out.old ≤ K.faults out.new }
-    ensures done { D.tells → (first : State) → IsReady session_kind (D.history session).now first →
-        IfSome (S.left script.old) (λ text. IsDone result.0 → HoldsCommands (D.history result.1).now first text) }
+    ensures done { D.tells → (b : Beginning) → Begins (map string_bytes words.now) (D.history session).now b →
+        IfSome (S.left script.old) (λ text. IsDone result.0 → HoldsCommands b (D.history result.1).now text) }
     ensures not_called { CallsNoDisk result.0 → result.1 ≡ session }
     ensures not_read { result.0 ≡ Status.Usage → script.new ≡ script.old }
     ensures crash { D.tells → (first : State) → IsReady session_kind (D.history session).now first →
@@ -195,10 +195,10 @@ fn run_over<K: Sink, D: SessionDisk, C: Clock>(
         result }
     ensures output { Prints (K.written out.old) (K.written out.new) (SaysFirst (Shows journal.old.present.state) result) }
     ensures later { K.faults out.old ≤ K.faults out.new }
-    ensures done { D.tells → (first : State) → Continues (D.history journal.old.disk).now journal.old.present journal.old.pending.items first [] →
-        IsDone result → HoldsCommands (D.history journal.new.disk).now first text.now }
-    ensures crash { D.tells → (first : State) → Continues (D.history journal.old.disk).now journal.old.present journal.old.pending.items first [] →
-        Leaves (D.history journal.old.disk) (D.history journal.new.disk) (IsGood session_kind first (issued text.now)) }
+    ensures done { D.tells → (b : Beginning) → b.options ≡ options journal.old.limits → Continues b (D.history journal.old.disk).now journal.old.present journal.old.pending.items [] →
+        IsDone result → HoldsCommands b (D.history journal.new.disk).now text.now }
+    ensures crash { D.tells → (b : Beginning) → b.options ≡ options journal.old.limits → Continues b (D.history journal.old.disk).now journal.old.present journal.old.pending.items [] →
+        Leaves (D.history journal.old.disk) (D.history journal.new.disk) (IsGood session_kind b.first (issued text.now)) }
 {
     if let Err(status) = say_start(alloc, journal.state(), out) {
         return status;

@@ -5,11 +5,11 @@ ghost use Rattle.file_rotation.specs.Recovery.{IsGood};
 ghost use Rattle.log_writer.specs.Faults.{answer, IsLongerThan, RefusesFailed, JournalHasCause};
 ghost use Rattle.session_commands.specs.declared.command.SessionCommand.{SessionCommand};
 ghost use Rattle.session_commands.specs.Table.{IsSound};
-ghost use Rattle.window_state.specs.States.{State};
 ghost use Rattle.compactor.specs.SessionKind.{session_kind};
 ghost use Rattle.session_drive.specs.Script.{script_max};
 ghost use Rattle.session_drive.specs.TabLine.{command_of, issued, refused_line};
-ghost use Rattle.session_drive.specs.Issuing.{Continues, NamesLast, HoldsCommands};
+ghost use Rattle.session_drive.specs.Issuing.{Beginning, Continues, NamesLast, HoldsCommands};
+ghost use Rattle.session_drive.specs.Words.{options};
 
 use crate::lines::first_line;
 use crate::tab_line::{TabLine, read_tab};
@@ -38,10 +38,10 @@ pub fn issue_script<D: SessionDisk, C: Clock>(
 
     // On a disk that tells, for the commands that the journal stands for.
     ensures stands { D.tells → NamesLast result (λ stamp. IsSome ((D.history journal.new.disk).now.standing stamp)) }
-    ensures done { D.tells → (first : State) → Continues (D.history journal.old.disk).now journal.old.present journal.old.pending.items first [] →
-        IfOk result (λ _. HoldsCommands (D.history journal.new.disk).now first text.now) }
-    ensures crash { D.tells → (first : State) → Continues (D.history journal.old.disk).now journal.old.present journal.old.pending.items first [] →
-        Leaves (D.history journal.old.disk) (D.history journal.new.disk) (IsGood session_kind first (issued text.now)) }
+    ensures done { D.tells → (b : Beginning) → b.options ≡ options journal.old.limits → Continues b (D.history journal.old.disk).now journal.old.present journal.old.pending.items [] →
+        IfOk result (λ _. HoldsCommands b (D.history journal.new.disk).now text.now) }
+    ensures crash { D.tells → (b : Beginning) → b.options ≡ options journal.old.limits → Continues b (D.history journal.old.disk).now journal.old.present journal.old.pending.items [] →
+        Leaves (D.history journal.old.disk) (D.history journal.new.disk) (IsGood session_kind b.first (issued text.now)) }
 {
     let refused = match issue_lines(journal, clock, text) {
         Ok(refused) => refused,
@@ -62,6 +62,7 @@ fn issue_lines<D: SessionDisk, C: Clock>(
     requires works { journal.old.failed ≡ None }
     requires short { length text.now ≤ script_max }
     ensures works { IfOk result (λ _. journal.new.failed ≡ None) }
+    ensures limits { journal.new.limits ≡ journal.old.limits }
     ensures refused { IfOk result (λ refused. refused ≡ refused_line text.now) }
     ensures count { journal.old.present.count + length (issued text.now) < 2 ^ 64 → IfOk result (λ _. journal.new.present.count ≡ journal.old.present.count + length (issued text.now)) }
     ensures already { RefusesFailed None result }
@@ -69,10 +70,10 @@ fn issue_lines<D: SessionDisk, C: Clock>(
     ensures last { NamesLast result (λ stamp. stamp ≡ 2 ^ 63 - 1) }
     ensures cause { JournalHasCause (D.failed journal.old.disk) (D.failed journal.new.disk) result }
     ensures stands { D.tells → NamesLast result (λ stamp. IsSome ((D.history journal.new.disk).now.standing stamp)) }
-    ensures runs { D.tells → (first : State) (q : List SessionCommand) → Continues (D.history journal.old.disk).now journal.old.present journal.old.pending.items first q →
-        IfOk result (λ _. Continues (D.history journal.new.disk).now journal.new.present journal.new.pending.items first (q ++ issued text.now)) }
-    ensures crash { D.tells → (first : State) (q : List SessionCommand) → Continues (D.history journal.old.disk).now journal.old.present journal.old.pending.items first q →
-        Leaves (D.history journal.old.disk) (D.history journal.new.disk) (IsGood session_kind first (q ++ issued text.now)) }
+    ensures runs { D.tells → (b : Beginning) (q : List SessionCommand) → b.options ≡ options journal.old.limits → Continues b (D.history journal.old.disk).now journal.old.present journal.old.pending.items q →
+        IfOk result (λ _. Continues b (D.history journal.new.disk).now journal.new.present journal.new.pending.items (q ++ issued text.now)) }
+    ensures crash { D.tells → (b : Beginning) (q : List SessionCommand) → b.options ≡ options journal.old.limits → Continues b (D.history journal.old.disk).now journal.old.present journal.old.pending.items q →
+        Leaves (D.history journal.old.disk) (D.history journal.new.disk) (IsGood session_kind b.first (q ++ issued text.now)) }
 {
     let mut lines = 0;
     let mut rest = text;
@@ -106,10 +107,10 @@ fn issue<D: SessionDisk, C: Clock>(
     ensures last { NamesLast result (λ stamp. stamp ≡ 2 ^ 63 - 1) }
     ensures cause { JournalHasCause (D.failed journal.old.disk) (D.failed journal.new.disk) result }
     ensures stands { D.tells → NamesLast result (λ stamp. IsSome ((D.history journal.new.disk).now.standing stamp)) }
-    ensures runs { D.tells → (first : State) (q : List SessionCommand) → Continues (D.history journal.old.disk).now journal.old.present journal.old.pending.items first q →
-        OnOk result (Continues (D.history journal.new.disk).now journal.new.present journal.new.pending.items first (q ++ command_of said ∷ [])) }
-    ensures crash { D.tells → (first : State) (q : List SessionCommand) → Continues (D.history journal.old.disk).now journal.old.present journal.old.pending.items first q →
-        Leaves (D.history journal.old.disk) (D.history journal.new.disk) (IsGood session_kind first (q ++ command_of said ∷ [])) }
+    ensures runs { D.tells → (b : Beginning) (q : List SessionCommand) → b.options ≡ options journal.old.limits → Continues b (D.history journal.old.disk).now journal.old.present journal.old.pending.items q →
+        OnOk result (Continues b (D.history journal.new.disk).now journal.new.present journal.new.pending.items (q ++ command_of said ∷ [])) }
+    ensures crash { D.tells → (b : Beginning) (q : List SessionCommand) → b.options ≡ options journal.old.limits → Continues b (D.history journal.old.disk).now journal.old.present journal.old.pending.items q →
+        Leaves (D.history journal.old.disk) (D.history journal.new.disk) (IsGood session_kind b.first (q ++ command_of said ∷ [])) }
 {
     match journal.write(clock, command_of(said)) {
         Ok(()) => Ok(()),

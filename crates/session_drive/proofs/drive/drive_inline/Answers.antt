@@ -15,6 +15,6 @@ returns-clause-output g c =
     (WritesLine-weaken _ _ (Rose-since _ _ _ c.run-closing.ensures.later) _ _ _ _ c.finish-status.ensures.output)
 
 pub returns-clause-done : goal.returns-clause-done
-returns-clause-done g c = λ tells first ready.
-    done_said _ (HoldsCommands (g.D.SessionDisk.history c.run-closing.result.1).now first) (g.S.Source.left c.args.script.now) c.run-closing.result.0.status c.finish-status.result c.finish-status.ensures.status
-    (c.run-closing.ensures.done tells first ready)
+returns-clause-done g c = λ tells b begins.
+    done_said _ (HoldsCommands b (g.D.SessionDisk.history c.run-closing.result.1).now) (g.S.Source.left c.args.script.now) c.run-closing.result.0.status c.finish-status.result c.finish-status.ensures.status
+    (c.run-closing.ensures.done tells b begins)

@@ -5,7 +5,7 @@ use Rattle.session_drive.proofs.StepLaws.{cause_answer}
 use Rattle.session_drive.proofs.drive.run_over.Goals as goal
 
 pub returns-in-Err-clause-crash : goal.returns-in-Err-clause-crash
-returns-in-Err-clause-crash g c = λ tells first on. issuing_begins _ _ _ first [] (issued c.args.text.now) on
+returns-in-Err-clause-crash g c = λ tells b limits on. issuing_begins b _ _ _ [] (issued c.args.text.now) on
 
 pub returns-in-Ok-clause-cause : goal.returns-in-Ok-clause-cause
 returns-in-Ok-clause-cause g c =
@@ -16,4 +16,4 @@ returns-in-Ok-clause-cause g c =
     c.answer_of.ensures c.in-Ok.ensures.refused c.count.ensures c.requires.none_written c.requires.short c.in-Ok.ensures.count
 
 pub returns-in-Ok-clause-done : goal.returns-in-Ok-clause-done
-returns-in-Ok-clause-done g c = λ tells first on done. c.in-Ok.ensures.done tells first on
+returns-in-Ok-clause-done g c = λ tells b limits on done. c.in-Ok.ensures.done tells b limits on

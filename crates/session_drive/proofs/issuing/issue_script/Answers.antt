@@ -5,22 +5,22 @@ use Rattle.session_drive.proofs.IssuingLaws.{told_all, sync_holds}
 use Rattle.session_drive.proofs.issuing.issue_script.Goals as goal
 
 pub returns-in-Err-clause-crash : goal.returns-in-Err-clause-crash
-returns-in-Err-clause-crash g c = λ tells first on. c.issue_lines.ensures.crash tells first [] on
+returns-in-Err-clause-crash g c = λ tells b limits on. c.issue_lines.ensures.crash tells b [] limits on
 
 pub returns-in-Ok-sync-clause-done : goal.returns-in-Ok-sync-clause-done
-returns-in-Ok-sync-clause-done g c = λ tells first on.
-    let on_now = c.in-Ok.ensures.runs tells first [] on in
-    sync_holds _ _ _ _ on_now.0 first c.args.text.now c.requires.short
-    (c.in-Ok-sync.ensures.ok tells c.in-Ok.ensures.works first (issued c.args.text.now) on_now.0 on_now.1)
-    (c.in-Ok-sync.ensures.at_rest tells c.in-Ok.ensures.works first (issued c.args.text.now) on_now.0 on_now.1)
+returns-in-Ok-sync-clause-done g c = λ tells b limits on.
+    let on_now = c.in-Ok.ensures.runs tells b [] limits on in
+    sync_holds b _ _ _ _ _ _ c.args.text.now c.requires.short on_now
+    (c.in-Ok-sync.ensures.ok tells c.in-Ok.ensures.works b.first (issued c.args.text.now) on_now.account on_now.runs)
+    (c.in-Ok-sync.ensures.at_rest tells c.in-Ok.ensures.works b.first (issued c.args.text.now) on_now.account on_now.runs)
     (told_all c.issue_lines.new.journal.present c.sync.new.self.present c.in-Ok-sync.ensures.told)
 
 pub returns-in-Ok-sync-clause-crash : goal.returns-in-Ok-sync-clause-crash
-returns-in-Ok-sync-clause-crash g c = λ tells first on.
-    let on_now = c.in-Ok.ensures.runs tells first [] on in
-    Leaves-trans (c.issue_lines.ensures.crash tells first [] on) (c.sync.ensures.crash tells c.in-Ok.ensures.works first (issued c.args.text.now) on_now.0 on_now.1)
+returns-in-Ok-sync-clause-crash g c = λ tells b limits on.
+    let on_now = c.in-Ok.ensures.runs tells b [] limits on in
+    Leaves-trans (c.issue_lines.ensures.crash tells b [] limits on) (c.sync.ensures.crash tells c.in-Ok.ensures.works b.first (issued c.args.text.now) on_now.account on_now.runs)
 
 pub returns-in-Err-sync-clause-crash : goal.returns-in-Err-sync-clause-crash
-returns-in-Err-sync-clause-crash g c = λ tells first on.
-    let on_now = c.in-Ok.ensures.runs tells first [] on in
-    Leaves-trans (c.issue_lines.ensures.crash tells first [] on) (c.sync.ensures.crash tells c.in-Ok.ensures.works first (issued c.args.text.now) on_now.0 on_now.1)
+returns-in-Err-sync-clause-crash g c = λ tells b limits on.
+    let on_now = c.in-Ok.ensures.runs tells b [] limits on in
+    Leaves-trans (c.issue_lines.ensures.crash tells b [] limits on) (c.sync.ensures.crash tells c.in-Ok.ensures.works b.first (issued c.args.text.now) on_now.account on_now.runs)
