@@ -1,5 +1,11 @@
 //! Plain decimals, as numbers stand in scripts, in command lines and in the names of files: digits alone, with
-//! no sign and no leading zero. Stands on no other crate.
+//! no sign and no leading zero.
+//!
+//! ```
+//! let stamp = read_decimal(b"1700000000");
+//! assert_eq!(rt; stamp, Some(1_700_000_000));
+//! assert_eq!(rt; read_decimal(b"007"), None);
+//! ```
 #![tactic(auto)]
 
 ghost use Rattle.std.specs.Prelude.{◌≡◌, ℕ, ◌<◌, ◌^◌, IfSome, IfNone};
@@ -47,6 +53,3 @@ fn are_digits(text: &[u8]) -> bool
 {
     text.iter().all(|c| c.is_ascii_digit())
 }
-
-#[cfg(test)]
-mod tests;

@@ -2,7 +2,9 @@
 -- Chromium's components/sessions/core/serialized_navigation_entry.cc and tab groups in session_service_commands.cc).
 use Rattle.std.specs.Prelude.{ℕ, ◌+◌, ℤ, List, [], ◌∷◌}
 use Rattle.pickle_cells.specs.Cell.{string_size}
-use Rattle.pickle_cells.specs.PickleLayout.{Item, Int, Uint32, Uint64, Text, Units, ItemKind, IntKind, Uint32Kind, Uint64Kind, TextKind, UnitsKind}
+use Rattle.pickle_cells.specs.declared.kind.ItemKind.{ItemKind}
+use Rattle.pickle_cells.specs.declared.kind.ItemKind.TheVariants.{Int as IntKind, Uint32 as Uint32Kind, Uint64 as Uint64Kind, Text as TextKind, Units as UnitsKind}
+use Rattle.pickle_cells.specs.PickleLayout.{Item, Int, Uint32, Uint64, Text, Units}
 
 -- tab, index, URL, title, page state and transition
 abbrev pub navigation_items : ℤ → ℤ → List ℕ → List ℕ → List ℕ → ℤ → List Item

@@ -3,4 +3,3 @@ pub mod Fitting
 pub mod Views
 pub mod GroupViews
 pub mod Display
-pub mod Rows

@@ -3,7 +3,8 @@ ghost use Rattle.std.specs.Prelude.{◌≡◌, ◌<◌, ◌%◌, ◌^◌, true, 
 ghost use Rattle.pickle_cells.specs.CellReading.{int_at, int64_at, flag_at, string_at, string16_at, units_of};
 ghost use Rattle.navigation_entry.specs.Display.{next, begun, front, goes_on, with_behind, pair_at, pairs_at, info_at};
 
-use crate::more::{InfoPair, InfoPairs};
+use crate::more::InfoPair;
+use item_list::Items;
 use pickle_cells::{Blob, Cursor, PickleFault, Text16};
 use std::alloc::{AllocError, Global};
 use std::marker::Model;
@@ -130,16 +131,16 @@ pub(crate) fn owned_units(alloc: Global, bytes: Option<&[u8]>) -> Result<Option<
 pub(crate) fn info_of<'a>(
     alloc: Global,
     mut fields: Fields<'a>,
-) -> Result<(InfoPairs, &'a [u8]), AllocError>
+) -> Result<(Items<InfoPair>, &'a [u8]), AllocError>
     ensures { IfOk result (λ x. (x.0, x.1.now) ≡ info_at fields.entry) }
 {
     let left = fields.left;
     match fields.int() {
         Some(count) if count >= 0 => {
             let (pairs, left) = pairs_of(alloc, count as u32, fields.left)?;
-            Ok((InfoPairs::from_vec(pairs), left))
+            Ok((Items::from_vec(pairs), left))
         }
-        _ => Ok((InfoPairs::from_vec(Vec::new(alloc)), left)),
+        _ => Ok((Items::new(alloc), left)),
     }
 }
 

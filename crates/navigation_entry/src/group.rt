@@ -7,7 +7,7 @@ use std::alloc::{AllocError, Global};
 
 /// A group of tabs: its two numbers, title and colour. It owns its title; its payload has at most 65,534 bytes, and
 /// `rest`, what follows the colour there, is a multiple of 4 bytes.
-#[derive(Debug, PartialEq, Eq, PartialOrd, Ord, Hash, Drop)]
+#[derive(Debug, PartialEq, Eq, Drop)]
 pub struct GroupInfo {
     pub high: u64,
     pub low: u64,

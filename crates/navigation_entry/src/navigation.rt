@@ -8,7 +8,7 @@ use std::alloc::AllocError;
 
 /// One page of a tab's history, without its tab and index. It owns its texts; its payload has at most 65,534
 /// bytes, and `rest`, what follows the transition there, is a multiple of 4 bytes.
-#[derive(Debug, PartialEq, Eq, PartialOrd, Ord, Hash, Drop)]
+#[derive(Debug, PartialEq, Eq, Drop)]
 pub struct Navigation {
     pub url: Blob,
     pub title: Text16,

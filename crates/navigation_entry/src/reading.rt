@@ -15,7 +15,8 @@ use std::alloc::{AllocError, Global};
 pub fn read_navigation(payload: &[u8]) -> Result<NavigationRef<'_>, PickleFault>
     requires { length payload.now ≤ 65534 }
     ensures found { IfOk result (λ r. IsPickled (reference_items r) r.rest.now payload.now) }
-    ensures only { (tab : ℤ) (index : ℤ) (n : Navigation) → IsNavigation tab index n payload.now → IsOkAnd result (λ r. (r.tab ≡ tab) × (r.index ≡ index) × Shows r n) }
+    ensures only { (tab : ℤ) (index : ℤ) (n : Navigation) → IsNavigation tab index n payload.now →
+        IsOkAnd result (λ r. (r.tab ≡ tab) × (r.index ≡ index) × Shows r n) }
     ensures exact { IsReadAs reference_parts result (pickled_at navigation_kinds payload.now) }
 {
     parts(payload)

@@ -5,7 +5,9 @@ use Rattle.std.proofs.lemmas.List.{length-append, length-replicate, take_at, dro
 use Rattle.pickle_cells.specs.declared.fault.PickleFault.{PickleFault}
 use Rattle.pickle_cells.specs.Cell.{IsBytes, int, int64, uint32, uint64, flag, counted, unit_bytes, padding, IsCounted, pickle}
 use Rattle.pickle_cells.specs.CellReading.{Unread, ◌>>=◌, int_at, int64_at, uint32_at, uint64_at, flag_at, string_at, string16_at, units_of}
-use Rattle.pickle_cells.specs.PickleLayout.{Item, Int, Int64, Uint32, Uint64, Flag, Text, Units, IsItem, FitsItem, item_size, item_bytes, ItemKind, IntKind, Int64Kind, Uint32Kind, Uint64Kind, FlagKind, TextKind, UnitsKind, kind_of, item_at, Takes}
+use Rattle.pickle_cells.specs.declared.kind.ItemKind.{ItemKind}
+use Rattle.pickle_cells.specs.declared.kind.ItemKind.TheVariants.{Int as IntKind, Int64 as Int64Kind, Uint32 as Uint32Kind, Uint64 as Uint64Kind, Flag as FlagKind, Text as TextKind, Units as UnitsKind}
+use Rattle.pickle_cells.specs.PickleLayout.{Item, Int, Int64, Uint32, Uint64, Flag, Text, Units, IsItem, FitsItem, item_size, item_bytes, kind_of, item_at, Takes}
 use Rattle.pickle_cells.proofs.UnitLaws.{length-unit_bytes, length-units_of, unit_bytes-units_of, units_of-fits, units_of-unit_bytes}
 use Rattle.pickle_cells.proofs.CellLaws.{IsBytes-take, IsBytes-drop, padded, bind_ok, ok_is, Taken, int_takes, int_again, int64_takes, int64_again, uint32_takes, uint32_again, uint64_takes, uint64_again, flag_takes, flag_again, counted_takes, counted_again}
 

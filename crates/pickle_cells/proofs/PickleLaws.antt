@@ -9,7 +9,8 @@ use Rattle.pickle_cells.specs.declared.fault.PickleFault.{PickleFault}
 use Rattle.pickle_cells.specs.declared.fault.PickleFault.TheVariants.{Short, SizeField}
 use Rattle.pickle_cells.specs.Cell.{IsBytes, uint32, IsPickle, pickle}
 use Rattle.pickle_cells.specs.CellReading.{Unread, ◌>>=◌, body_at}
-use Rattle.pickle_cells.specs.PickleLayout.{Item, AreItems, IsPickled, FitsItem, items_size, pickled_size, item_bytes, items_bytes, pickled_bytes, ItemKind, kind_of, item_at, items_at, pickled_at}
+use Rattle.pickle_cells.specs.declared.kind.ItemKind.{ItemKind}
+use Rattle.pickle_cells.specs.PickleLayout.{Item, AreItems, IsPickled, FitsItem, items_size, pickled_size, item_bytes, items_bytes, pickled_bytes, kind_of, item_at, items_at, pickled_at}
 use Rattle.pickle_cells.proofs.ItemLaws.{length-uint32, item_found, item_only, item_bytes-is, length-cell, item_size-whole}
 use Rattle.std.proofs.lemmas.Bool.{eqb-true, ltb-false, le-ltb}
 use Rattle.std.proofs.lemmas.Bool.Decides.{nat_tests}

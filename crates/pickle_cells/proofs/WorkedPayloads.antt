@@ -4,7 +4,9 @@ use Rattle.pickle_cells.specs.declared.fault.PickleFault.{PickleFault}
 use Rattle.pickle_cells.specs.declared.fault.PickleFault.TheVariants.{Short, SizeField, NegativeLength}
 use Rattle.pickle_cells.specs.Cell.{int, uint32, padding, counted, pickle}
 use Rattle.pickle_cells.specs.CellReading.{past, number_at, signed_at, text_at, counted_at, body_at}
-use Rattle.pickle_cells.specs.PickleLayout.{Item, Int, Text, ItemKind, IntKind, TextKind, item_bytes, items_bytes, pickled_bytes, item_at, items_at, pickled_at}
+use Rattle.pickle_cells.specs.declared.kind.ItemKind.{ItemKind}
+use Rattle.pickle_cells.specs.declared.kind.ItemKind.TheVariants.{Int as IntKind, Text as TextKind}
+use Rattle.pickle_cells.specs.PickleLayout.{Item, Int, Text, item_bytes, items_bytes, pickled_bytes, item_at, items_at, pickled_at}
 
 abbrev app : List Item
 app = Int (pos 1) ∷ Text (97 ∷ 98 ∷ []) ∷ []

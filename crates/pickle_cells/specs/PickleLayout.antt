@@ -4,6 +4,8 @@ use Rattle.std.specs.Prelude.{◌≡◌, ℕ, ◌+◌, ◌*◌, ◌<◌, ◌^◌
 use Rattle.std.specs.List.{AllByRecursion}
 use Rattle.std.specs.Int.{w32, w64}
 use Rattle.pickle_cells.specs.declared.fault.PickleFault.{PickleFault}
+use Rattle.pickle_cells.specs.declared.kind.ItemKind.{ItemKind}
+use Rattle.pickle_cells.specs.declared.kind.ItemKind.TheVariants.{Int as IntKind, Int64 as Int64Kind, Uint32 as Uint32Kind, Uint64 as Uint64Kind, Flag as FlagKind, Text as TextKind, Units as UnitsKind}
 use Rattle.pickle_cells.specs.Cell.{int, int64, uint32, uint64, flag, string, string16, string_size, IsFlag, IsString, IsString16, IsPickle, pickle}
 use Rattle.pickle_cells.specs.CellReading.{Unread, ◌>>=◌, int_at, int64_at, uint32_at, uint64_at, flag_at, string_at, string16_at, units_of, body_at}
 
@@ -84,16 +86,7 @@ FitsItem (Flag b) = Unit {0}
 FitsItem (Text text) = length text < 2 ^ 31
 FitsItem (Units units) = AllByRecursion (λ u. u < 2 ^ 16) units × (length units < 2 ^ 31)
 
--- An item without its value: the shape of a payload is a list of kinds.
-pub data ItemKind : Type 0 where
-  IntKind : ItemKind
-  Int64Kind : ItemKind
-  Uint32Kind : ItemKind
-  Uint64Kind : ItemKind
-  FlagKind : ItemKind
-  TextKind : ItemKind
-  UnitsKind : ItemKind
-
+-- the kind of an item: the shape of a payload is a list of kinds
 abbrev pub kind_of : Item → ItemKind
 kind_of (Int z) = IntKind
 kind_of (Int64 z) = Int64Kind

@@ -54,7 +54,8 @@ impl<'a> Cursor<'a> {
     /// The next number of 4 bytes. `Short` where fewer are left.
     pub fn uint32(&mut self) -> Result<u32, PickleFault>
         ensures found { IfOk result (λ n. Takes self.old (Uint32 n) self.new) }
-        ensures only { (n : ℕ) (rest : Unread) → Takes self.old (Uint32 n) rest → IsOkAnd result (λ r. r ≡ n) × (self.new ≡ rest) }
+        ensures only { (n : ℕ) (rest : Unread) → Takes self.old (Uint32 n) rest → IsOkAnd result (λ r. r ≡ n)
+            × (self.new ≡ rest) }
         ensures exact { Gives (λ n. n) self.old result self.new (uint32_at self.old) }
     {
         known(self.unread);
@@ -64,7 +65,8 @@ impl<'a> Cursor<'a> {
     /// The next number of 8 bytes. `Short` where fewer are left.
     pub fn uint64(&mut self) -> Result<u64, PickleFault>
         ensures found { IfOk result (λ n. Takes self.old (Uint64 n) self.new) }
-        ensures only { (n : ℕ) (rest : Unread) → Takes self.old (Uint64 n) rest → IsOkAnd result (λ r. r ≡ n) × (self.new ≡ rest) }
+        ensures only { (n : ℕ) (rest : Unread) → Takes self.old (Uint64 n) rest → IsOkAnd result (λ r. r ≡ n)
+            × (self.new ≡ rest) }
         ensures exact { Gives (λ n. n) self.old result self.new (uint64_at self.old) }
     {
         known(self.unread);
@@ -74,7 +76,8 @@ impl<'a> Cursor<'a> {
     /// The next signed number of 4 bytes. `Short` where fewer are left.
     pub fn int(&mut self) -> Result<i32, PickleFault>
         ensures found { IfOk result (λ z. Takes self.old (Int z) self.new) }
-        ensures only { (z : ℤ) (rest : Unread) → Takes self.old (Int z) rest → IsOkAnd result (λ r. r ≡ z) × (self.new ≡ rest) }
+        ensures only { (z : ℤ) (rest : Unread) → Takes self.old (Int z) rest → IsOkAnd result (λ r. r ≡ z)
+            × (self.new ≡ rest) }
         ensures exact { Gives (λ z. z) self.old result self.new (int_at self.old) }
     {
         known(self.unread);
@@ -84,7 +87,8 @@ impl<'a> Cursor<'a> {
     /// The next signed number of 8 bytes. `Short` where fewer are left.
     pub fn int64(&mut self) -> Result<i64, PickleFault>
         ensures found { IfOk result (λ z. Takes self.old (Int64 z) self.new) }
-        ensures only { (z : ℤ) (rest : Unread) → Takes self.old (Int64 z) rest → IsOkAnd result (λ r. r ≡ z) × (self.new ≡ rest) }
+        ensures only { (z : ℤ) (rest : Unread) → Takes self.old (Int64 z) rest → IsOkAnd result (λ r. r ≡ z)
+            × (self.new ≡ rest) }
         ensures exact { Gives (λ z. z) self.old result self.new (int64_at self.old) }
     {
         known(self.unread);
@@ -94,7 +98,8 @@ impl<'a> Cursor<'a> {
     /// The next truth value, true where its 4 bytes aren't all 0. `Short` where fewer are left.
     pub fn flag(&mut self) -> Result<bool, PickleFault>
         ensures found { IfOk result (λ b. Takes self.old (Flag b) self.new) }
-        ensures only { (b : Bool) (rest : Unread) → Takes self.old (Flag b) rest → IsOkAnd result (λ r. r ≡ b) × (self.new ≡ rest) }
+        ensures only { (b : Bool) (rest : Unread) → Takes self.old (Flag b) rest → IsOkAnd result (λ r. r ≡ b)
+            × (self.new ≡ rest) }
         ensures exact { Gives (λ b. b) self.old result self.new (flag_at self.old) }
     {
         known(self.unread);
@@ -105,7 +110,8 @@ impl<'a> Cursor<'a> {
     /// bytes or their padding aren't all left.
     pub fn bytes(&mut self) -> Result<&'a [u8], PickleFault>
         ensures found { IfOk result (λ text. Takes self.old (Text text.now) self.new) }
-        ensures only { (text : List ℕ) (rest : Unread) → Takes self.old (Text text) rest → IsOkAnd result (λ r. r.now ≡ text) × (self.new ≡ rest) }
+        ensures only { (text : List ℕ) (rest : Unread) → Takes self.old (Text text) rest →
+            IsOkAnd result (λ r. r.now ≡ text) × (self.new ≡ rest) }
         ensures exact { Gives (λ text. text.now) self.old result self.new (string_at self.old) }
     {
         known(self.unread);
@@ -115,7 +121,8 @@ impl<'a> Cursor<'a> {
     /// The bytes of the next string of 16-bit units, two a unit. The faults are those of `bytes`.
     pub fn units(&mut self) -> Result<&'a [u8], PickleFault>
         ensures found { IfOk result (λ text. (length text.now % 2 ≡ 0) × Takes self.old (Units (units_of text.now)) self.new) }
-        ensures only { (units : List ℕ) (rest : Unread) → Takes self.old (Units units) rest → IsOkAnd result (λ r. r.now ≡ unit_bytes units) × (self.new ≡ rest) }
+        ensures only { (units : List ℕ) (rest : Unread) → Takes self.old (Units units) rest →
+            IsOkAnd result (λ r. r.now ≡ unit_bytes units) × (self.new ≡ rest) }
         ensures exact { Gives (λ text. text.now) self.old result self.new (string16_at self.old) }
     {
         known(self.unread);
@@ -226,7 +233,9 @@ fn told_place(place: u64) -> u32
 }
 
 fn uint32_in(place: u64, bytes: &[u8]) -> Result<(u32, &[u8]), PickleFault>
-    ensures { MatchResult result (λ x. (4 ≤ length bytes.now) × (x.0 ≡ from_le_bytes w32 (take 4 bytes.now)) × (x.1.now ≡ drop 4 bytes.now)) (λ fault. (length bytes.now < 4) × (fault ≡ Short (told place))) }
+    ensures { MatchResult result
+        (λ x. (4 ≤ length bytes.now) × (x.0 ≡ from_le_bytes w32 (take 4 bytes.now)) × (x.1.now ≡ drop 4 bytes.now))
+        (λ fault. (length bytes.now < 4) × (fault ≡ Short (told place))) }
 {
     if bytes.len() < 4 {
         return Err(PickleFault::Short {
@@ -239,7 +248,9 @@ fn uint32_in(place: u64, bytes: &[u8]) -> Result<(u32, &[u8]), PickleFault>
 }
 
 fn uint64_in(place: u64, bytes: &[u8]) -> Result<(u64, &[u8]), PickleFault>
-    ensures { MatchResult result (λ x. (8 ≤ length bytes.now) × (x.0 ≡ from_le_bytes w64 (take 8 bytes.now)) × (x.1.now ≡ drop 8 bytes.now)) (λ fault. (length bytes.now < 8) × (fault ≡ Short (told place))) }
+    ensures { MatchResult result
+        (λ x. (8 ≤ length bytes.now) × (x.0 ≡ from_le_bytes w64 (take 8 bytes.now)) × (x.1.now ≡ drop 8 bytes.now))
+        (λ fault. (length bytes.now < 8) × (fault ≡ Short (told place))) }
 {
     if bytes.len() < 8 {
         return Err(PickleFault::Short {
@@ -255,7 +266,10 @@ fn uint64_in(place: u64, bytes: &[u8]) -> Result<(u64, &[u8]), PickleFault>
 
 fn text_in(place: u64, size: usize, bytes: &[u8]) -> Result<(&[u8], &[u8]), PickleFault>
     requires { size < 2 ^ 33 }
-    ensures { MatchResult result (λ x. (size + padding size ≤ length bytes.now) × (x.0.now ≡ take size bytes.now) × (x.1.now ≡ drop (size + padding size) bytes.now)) (λ fault. (length bytes.now < size + padding size) × (fault ≡ Short (told place))) }
+    ensures { MatchResult result
+        (λ x. (size + padding size ≤ length bytes.now) × (x.0.now ≡ take size bytes.now)
+        × (x.1.now ≡ drop (size + padding size) bytes.now))
+        (λ fault. (length bytes.now < size + padding size) × (fault ≡ Short (told place))) }
 {
     let padded = size + padding_behind(size);
     if bytes.len() < padded {

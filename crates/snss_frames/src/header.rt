@@ -2,6 +2,8 @@
 ghost use Rattle.std.specs.Prelude.{◌≡◌};
 ghost use Rattle.snss_frames.specs.Header.{header, header_of};
 
+use thiserror::Error;
+
 /// The four letters `SNSS` as a little-endian number.
 pub const SIGNATURE: u32 = 0x5353_4E53;
 
@@ -13,13 +15,16 @@ pub enum Version {
 }
 
 /// Why eight bytes are no header of a file that is read. Each carries the number that stands there.
-#[derive(Clone, Copy, Debug, PartialEq, Eq)]
+#[derive(Clone, Copy, Debug, PartialEq, Eq, Error)]
 pub enum HeaderFault {
     /// The first four bytes aren't the signature.
+    #[error("the file begins with the number {0}, which isn't the signature SNSS")]
     BadSignature(u32),
     /// Version 2 or 4, the encrypted counterparts of 1 and 3.
+    #[error("the file is encrypted (version {0})")]
     Encrypted(u32),
     /// A version that isn't from 1 to 4.
+    #[error("the version {0} is unknown")]
     UnknownVersion(u32),
 }
 

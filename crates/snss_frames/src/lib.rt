@@ -1,4 +1,15 @@
-//! The form of SNSS session files: the header, and commands in frames. Stands on no other crate.
+//! The form of SNSS session files: a header of eight bytes, then commands in frames, each a size, an id and a
+//! payload. All reading is over borrowed bytes.
+//!
+//! ```
+//! let mut file = Vec::from_array(alloc, write_header(Version::Three))?;
+//! write_frame(255, &[], &mut file)?;
+//! let rest = &file[8..];
+//! match first_frame(rest, 8) {
+//!     Some(frame) => assert_eq!(rt; frame.id, 255),
+//!     None => assert_eq!(rt; ending_of(rest, 8), Ending::Whole),
+//! }
+//! ```
 #![tactic(auto)]
 
 mod ending;
@@ -8,6 +19,3 @@ mod header;
 pub use ending::{Ending, ending_of};
 pub use frame::{FrameRef, first_frame, write_frame};
 pub use header::{HeaderFault, Version, read_header, write_header};
-
-#[cfg(test)]
-mod tests;
