@@ -1,13 +1,17 @@
 -- The table read backwards: the command of an id and a layout. So a row is no other command's, and a layout of an id's
 -- shape is some command's.
-use Rattle.std.proofs.Common.{◌≡◌, ℕ, ℤ, ◌*◌, ◌%◌, ◌≤◌, Bool, true, eqb, List, [], ◌∷◌, length, Option, Some, None, subst, refl, sym, ap, ◌∙◌, inl, inr, arith}
+use Rattle.std.proofs.Common.{◌≡◌, ℕ, ℤ, ◌*◌, ◌%◌, ◌≤◌, Bool, true, List, [], ◌∷◌, length, Option, Some, None, subst, refl, sym, ap, ◌∙◌, arith}
 use Rattle.std.specs.Prelude.{if◌then◌else◌, ◌==◌}
-use Rattle.std.proofs.lemmas.Bool.{eqb-true, cases_Bool}
+use Rattle.std.specs.List.{AllByRecursion}
 use Rattle.std.proofs.Props.{props}
 use Rattle.pickle_cells.specs.Layout.{Int, Int64, Uint64, Flag, Free}
 use Rattle.pickle_cells.specs.PickleLayout.{Int as IntItem, Uint32 as Uint32Item, Uint64 as Uint64Item, Text as TextItem, Units as UnitsItem}
-use Rattle.session_commands.specs.PayloadLayout.{Layout, Fixed, Pickled, Shape, shape, IsWhole}
-use Rattle.session_commands.specs.Faults.{shape_of, int_shape, two_ints_shape, three_ints_shape, six_ints_shape, int_flag_shape, int_time_shape, tab_group_shape, int_rest_shape, int_text_shape, int_two_texts_shape, navigation_shape, group_shape}
+use Rattle.payload_rows.specs.PayloadLayout.{Layout, Fixed, Pickled, shape, IsWhole}
+use Rattle.payload_rows.specs.Shapes.{fields_of}
+use Rattle.payload_rows.specs.declared.shape.Shape.{Shape as Named}
+use Rattle.payload_rows.specs.declared.shape.Shape.TheVariants as named
+use Rattle.payload_rows.proofs.TableLookup.{found, found_shape}
+use Rattle.session_commands.specs.Faults.{shapes, shape_of}
 use Rattle.session_commands.specs.Table.{Row, Known, Kept, row}
 use Rattle.navigation_entry.specs.declared.bounds.Bounds.{Bounds}
 use Rattle.navigation_entry.specs.declared.navigation.Navigation.{Navigation}
@@ -16,7 +20,7 @@ use Rattle.navigation_entry.specs.declared.group.GroupInfo.{GroupInfo}
 use Rattle.navigation_entry.specs.Layouts.{group_items, group_size}
 use Rattle.session_commands.specs.declared.command.SessionCommand.{SessionCommand}
 use Rattle.session_commands.specs.declared.command.SessionCommand.TheVariants.{TabWindow, TabIndex, PrunedBack, UpdateNavigation, SelectNavigation, SelectTab, WindowKind, PrunedFront, Pinned, Extension, WindowBounds, WindowApp, TabClosed, WindowClosed, SessionStorage, ActiveWindow, LastActive, Workspace, Pruned, TabGroup, GroupData, TabGuid, UserAgent, UserTitle, AllWorkspaces, TabExtra, WindowExtra, Raw}
-use Rattle.session_commands.proofs.LayoutLaws.{is_short}
+use Rattle.payload_rows.proofs.LayoutLaws.{is_short}
 
 -- what the types of a navigation and of a group keep
 abbrev NavigationFacts : List ℕ → List ℕ → List ℕ → List ℕ → Type 0
@@ -193,101 +197,152 @@ row_injective c d i j l m p q same layout =
 abbrev pub RowOf : ℕ → Layout → Type 0
 RowOf id layout = (c : SessionCommand) × (row c ≡ Known id layout)
 
-int_row : (id : ℕ) (f : ℤ → SessionCommand) → ((a : ℤ) → row (f a) ≡ Known id (Fixed (Int a ∷ []))) → (layout : Layout) → IsWhole layout → int_shape ≡ shape layout → RowOf id layout
+int_row : (id : ℕ) (f : ℤ → SessionCommand) → ((a : ℤ) → row (f a) ≡ Known id (Fixed (Int a ∷ []))) → (layout : Layout) → IsWhole layout → fields_of named.Int ≡ shape layout → RowOf id layout
 int_row id f is (Fixed (Int a ∷ [])) whole e = (f a, is a)
 int_row id f is _ whole e = absurd cc
 
-two_ints_row : (id : ℕ) (f : ℤ → ℤ → SessionCommand) → ((a b : ℤ) → row (f a b) ≡ Known id (Fixed (Int a ∷ Int b ∷ []))) → (layout : Layout) → IsWhole layout → two_ints_shape ≡ shape layout → RowOf id layout
+two_ints_row : (id : ℕ) (f : ℤ → ℤ → SessionCommand) → ((a b : ℤ) → row (f a b) ≡ Known id (Fixed (Int a ∷ Int b ∷ []))) → (layout : Layout) → IsWhole layout → fields_of named.TwoInts ≡ shape layout → RowOf id layout
 two_ints_row id f is (Fixed (Int a ∷ Int b ∷ [])) whole e = (f a b, is a b)
 two_ints_row id f is _ whole e = absurd cc
 
-three_ints_row : (id : ℕ) (f : ℤ → ℤ → ℤ → SessionCommand) → ((a b c : ℤ) → row (f a b c) ≡ Known id (Fixed (Int a ∷ Int b ∷ Int c ∷ []))) → (layout : Layout) → IsWhole layout → three_ints_shape ≡ shape layout → RowOf id layout
+three_ints_row : (id : ℕ) (f : ℤ → ℤ → ℤ → SessionCommand) → ((a b c : ℤ) → row (f a b c) ≡ Known id (Fixed (Int a ∷ Int b ∷ Int c ∷ []))) → (layout : Layout) → IsWhole layout → fields_of named.ThreeInts ≡ shape layout → RowOf id layout
 three_ints_row id f is (Fixed (Int a ∷ Int b ∷ Int c ∷ [])) whole e = (f a b c, is a b c)
 three_ints_row id f is _ whole e = absurd cc
 
 six_ints_row : (id : ℕ) (f : ℤ → Bounds → SessionCommand) →
-    ((a : ℤ) (b : Bounds) → row (f a b) ≡ Known id (Fixed (Int a ∷ Int b.x ∷ Int b.y ∷ Int b.width ∷ Int b.height ∷ Int b.show ∷ []))) → (layout : Layout) → IsWhole layout → six_ints_shape ≡ shape layout → RowOf id layout
+    ((a : ℤ) (b : Bounds) → row (f a b) ≡ Known id (Fixed (Int a ∷ Int b.x ∷ Int b.y ∷ Int b.width ∷ Int b.height ∷ Int b.show ∷ []))) → (layout : Layout) → IsWhole layout → fields_of named.WindowBounds ≡ shape layout → RowOf id layout
 six_ints_row id f is (Fixed (Int a ∷ Int b ∷ Int c ∷ Int d ∷ Int e ∷ Int g ∷ [])) whole _ =
     let bounds : Bounds = record { x = b; y = c; width = d; height = e; show = g } in (f a bounds, is a bounds)
 six_ints_row id f is _ whole e = absurd cc
 
-int_flag_row : (id : ℕ) (f : ℤ → Bool → SessionCommand) → ((a : ℤ) (b : Bool) → row (f a b) ≡ Known id (Fixed (Int a ∷ Flag b ∷ Free 3 ∷ []))) → (layout : Layout) → IsWhole layout → int_flag_shape ≡ shape layout → RowOf id layout
+int_flag_row : (id : ℕ) (f : ℤ → Bool → SessionCommand) → ((a : ℤ) (b : Bool) → row (f a b) ≡ Known id (Fixed (Int a ∷ Flag b ∷ Free 3 ∷ []))) → (layout : Layout) → IsWhole layout → fields_of named.IntFlag ≡ shape layout → RowOf id layout
 int_flag_row id f is (Fixed (Int a ∷ Flag b ∷ Free n ∷ [])) whole e = let three : 3 ≡ n = cc in (f a b, is a b ∙ cc)
 int_flag_row id f is _ whole e = absurd cc
 
-int_time_row : (id : ℕ) (f : ℤ → ℤ → SessionCommand) → ((a t : ℤ) → row (f a t) ≡ Known id (Fixed (Int a ∷ Free 4 ∷ Int64 t ∷ []))) → (layout : Layout) → IsWhole layout → int_time_shape ≡ shape layout → RowOf id layout
+int_time_row : (id : ℕ) (f : ℤ → ℤ → SessionCommand) → ((a t : ℤ) → row (f a t) ≡ Known id (Fixed (Int a ∷ Free 4 ∷ Int64 t ∷ []))) → (layout : Layout) → IsWhole layout → fields_of named.IntTime ≡ shape layout → RowOf id layout
 int_time_row id f is (Fixed (Int a ∷ Free n ∷ Int64 t ∷ [])) whole e = let four : 4 ≡ n = cc in (f a t, is a t ∙ cc)
 int_time_row id f is _ whole e = absurd cc
 
 tab_group_row : (id : ℕ) (f : ℤ → ℕ → ℕ → Bool → SessionCommand) →
-    ((a : ℤ) (h l : ℕ) (b : Bool) → row (f a h l b) ≡ Known id (Fixed (Int a ∷ Free 4 ∷ Uint64 h ∷ Uint64 l ∷ Flag b ∷ Free 7 ∷ []))) → (layout : Layout) → IsWhole layout → tab_group_shape ≡ shape layout → RowOf id layout
+    ((a : ℤ) (h l : ℕ) (b : Bool) → row (f a h l b) ≡ Known id (Fixed (Int a ∷ Free 4 ∷ Uint64 h ∷ Uint64 l ∷ Flag b ∷ Free 7 ∷ []))) → (layout : Layout) → IsWhole layout → fields_of named.TabGroup ≡ shape layout → RowOf id layout
 tab_group_row id f is (Fixed (Int a ∷ Free n ∷ Uint64 h ∷ Uint64 l ∷ Flag b ∷ Free m ∷ [])) whole e =
     let four : 4 ≡ n = cc in let seven : 7 ≡ m = cc in (f a h l b, is a h l b ∙ cc)
 tab_group_row id f is _ whole e = absurd cc
 
-int_rest_row : (id : ℕ) (f : ℤ → List ℕ → SessionCommand) → ((a : ℤ) (tail : List ℕ) → row (f a tail) ≡ Known id (Pickled (IntItem a ∷ []) tail)) → (layout : Layout) → IsWhole layout → int_rest_shape ≡ shape layout → RowOf id layout
+int_rest_row : (id : ℕ) (f : ℤ → List ℕ → SessionCommand) → ((a : ℤ) (tail : List ℕ) → row (f a tail) ≡ Known id (Pickled (IntItem a ∷ []) tail)) → (layout : Layout) → IsWhole layout → fields_of named.IntRest ≡ shape layout → RowOf id layout
 int_rest_row id f is (Pickled (IntItem a ∷ []) tail) whole e = (f a tail, is a tail)
 int_rest_row id f is _ whole e = absurd cc
 
-int_text_row : (id : ℕ) (f : ℤ → List ℕ → List ℕ → SessionCommand) → ((a : ℤ) (t tail : List ℕ) → row (f a t tail) ≡ Known id (Pickled (IntItem a ∷ TextItem t ∷ []) tail)) → (layout : Layout) → IsWhole layout → int_text_shape ≡ shape layout → RowOf id layout
+int_text_row : (id : ℕ) (f : ℤ → List ℕ → List ℕ → SessionCommand) → ((a : ℤ) (t tail : List ℕ) → row (f a t tail) ≡ Known id (Pickled (IntItem a ∷ TextItem t ∷ []) tail)) → (layout : Layout) → IsWhole layout → fields_of named.IntText ≡ shape layout → RowOf id layout
 int_text_row id f is (Pickled (IntItem a ∷ TextItem t ∷ []) tail) whole e = (f a t tail, is a t tail)
 int_text_row id f is _ whole e = absurd cc
 
-int_two_texts_row : (id : ℕ) (f : ℤ → List ℕ → List ℕ → List ℕ → SessionCommand) → ((a : ℤ) (t u tail : List ℕ) → row (f a t u tail) ≡ Known id (Pickled (IntItem a ∷ TextItem t ∷ TextItem u ∷ []) tail)) → (layout : Layout) → IsWhole layout → int_two_texts_shape ≡ shape layout → RowOf id layout
+int_two_texts_row : (id : ℕ) (f : ℤ → List ℕ → List ℕ → List ℕ → SessionCommand) → ((a : ℤ) (t u tail : List ℕ) → row (f a t u tail) ≡ Known id (Pickled (IntItem a ∷ TextItem t ∷ TextItem u ∷ []) tail)) → (layout : Layout) → IsWhole layout → fields_of named.IntTwoTexts ≡ shape layout → RowOf id layout
 int_two_texts_row id f is (Pickled (IntItem a ∷ TextItem t ∷ TextItem u ∷ []) tail) whole e = (f a t u tail, is a t u tail)
 int_two_texts_row id f is _ whole e = absurd cc
 
-navigation_row : (id : ℕ) (f : ℤ → ℤ → Navigation → SessionCommand) → ((a b : ℤ) (n : Navigation) → row (f a b n) ≡ Known id (Pickled (navigation_items a b n.url n.title n.page_state n.transition) n.rest)) → (layout : Layout) → IsWhole layout → navigation_shape ≡ shape layout → RowOf id layout
+navigation_row : (id : ℕ) (f : ℤ → ℤ → Navigation → SessionCommand) → ((a b : ℤ) (n : Navigation) → row (f a b n) ≡ Known id (Pickled (navigation_items a b n.url n.title n.page_state n.transition) n.rest)) → (layout : Layout) → IsWhole layout → fields_of named.Navigation ≡ shape layout → RowOf id layout
 navigation_row id f is (Pickled (IntItem a ∷ IntItem b ∷ TextItem u ∷ UnitsItem t ∷ TextItem p ∷ IntItem c ∷ []) rest) whole e =
     let n = navigation_of u t p c rest (navigation_facts a b u t p c rest whole) in (f a b n, is a b n)
 navigation_row id f is _ whole e = absurd cc
 
-group_row : (id : ℕ) (f : GroupInfo → SessionCommand) → ((g : GroupInfo) → row (f g) ≡ Known id (Pickled (group_items g.high g.low g.title g.colour) g.rest)) → (layout : Layout) → IsWhole layout → group_shape ≡ shape layout → RowOf id layout
+group_row : (id : ℕ) (f : GroupInfo → SessionCommand) → ((g : GroupInfo) → row (f g) ≡ Known id (Pickled (group_items g.high g.low g.title g.colour) g.rest)) → (layout : Layout) → IsWhole layout → fields_of named.Group ≡ shape layout → RowOf id layout
 group_row id f is (Pickled (Uint64Item h ∷ Uint64Item l ∷ UnitsItem t ∷ Uint32Item c ∷ []) rest) whole e =
     let g = group_of h l t c rest (group_facts h l t c rest whole) in (f g, is g)
 group_row id f is _ whole e = absurd cc
 
--- one line of the table: where the id is its own the payload has its shape, else a later line holds
-at_id : {R : Type 0} (own id : ℕ) (s : Shape) (later r : Option Shape) → (if id == own then Some s else later) ≡ r → (own ≡ id → Some s ≡ r → R) → (later ≡ r → R) → R
-at_id own id s later r e here there =
-    elim (cases_Bool (eqb id own)) [
-      | inl same ↦ here (sym (eqb-true id own same)) (rw same at e)
-      | inr apart ↦ there (rw apart at e)
-    ]
+-- a line of the table holds for a layout: where the layout has the line's shape, some command has the row
+abbrev LineHolds : Layout → ℕ → Named → Type 0
+LineHolds layout id name = fields_of name ≡ shape layout → RowOf id layout
 
-row_of_id : (layout : Layout) (own id : ℕ) (s : Shape) → IsWhole layout → ((l : Layout) → IsWhole l → s ≡ shape l → RowOf own l) → own ≡ id → Some s ≡ Some (shape layout) → RowOf id layout
-row_of_id layout own id s whole found same e = subst (λ (x : ℕ). RowOf x layout) same (found layout whole (cc))
+lines_hold : (layout : Layout) → IsWhole layout → AllByRecursion (λ line. LineHolds layout line.0 line.1) shapes
+lines_hold layout whole = (
+  two_ints_row 0 (λ a b. TabWindow a b) (λ a b. refl) layout whole,
+  (
+    two_ints_row 2 (λ a b. TabIndex a b) (λ a b. refl) layout whole,
+    (
+      two_ints_row 5 (λ a b. PrunedBack a b) (λ a b. refl) layout whole,
+      (
+        navigation_row 6 (λ a b n. UpdateNavigation a b n) (λ a b n. refl) layout whole,
+        (
+          two_ints_row 7 (λ a b. SelectNavigation a b) (λ a b. refl) layout whole,
+          (
+            two_ints_row 8 (λ a b. SelectTab a b) (λ a b. refl) layout whole,
+            (
+              two_ints_row 9 (λ a b. WindowKind a b) (λ a b. refl) layout whole,
+              (
+                two_ints_row 11 (λ a b. PrunedFront a b) (λ a b. refl) layout whole,
+                (
+                  int_flag_row 12 (λ a b. Pinned a b) (λ a b. refl) layout whole,
+                  (
+                    int_text_row 13 (λ a t tail. Extension a t tail) (λ a t tail. refl) layout whole,
+                    (
+                      six_ints_row 14 (λ a b. WindowBounds a b) (λ a b. refl) layout whole,
+                      (
+                        int_text_row 15 (λ a t tail. WindowApp a t tail) (λ a t tail. refl) layout whole,
+                        (
+                          int_time_row 16 (λ a t. TabClosed a t) (λ a t. refl) layout whole,
+                          (
+                            int_time_row 17 (λ a t. WindowClosed a t) (λ a t. refl) layout whole,
+                            (
+                              int_text_row 19 (λ a t tail. SessionStorage a t tail) (λ a t tail. refl) layout whole,
+                              (
+                                int_row 20 (λ a. ActiveWindow a) (λ a. refl) layout whole,
+                                (
+                                  int_time_row 21 (λ a t. LastActive a t) (λ a t. refl) layout whole,
+                                  (
+                                    int_text_row 23 (λ a t tail. Workspace a t tail) (λ a t tail. refl) layout whole,
+                                    (
+                                      three_ints_row 24 (λ a b c. Pruned a b c) (λ a b c. refl) layout whole,
+                                      (
+                                        tab_group_row 25 (λ a h l b. TabGroup a h l b) (λ a h l b. refl) layout whole,
+                                        (
+                                          group_row 27 (λ g. GroupData g) (λ g. refl) layout whole,
+                                          (
+                                            int_text_row 28 (λ a t tail. TabGuid a t tail) (λ a t tail. refl) layout whole,
+                                            (
+                                              int_rest_row 29 (λ a tail. UserAgent a tail) (λ a tail. refl) layout whole,
+                                              (
+                                                int_text_row 31 (λ a t tail. UserTitle a t tail) (λ a t tail. refl) layout whole,
+                                                (
+                                                  int_flag_row 32 (λ a b. AllWorkspaces a b) (λ a b. refl) layout whole,
+                                                  (
+                                                    int_two_texts_row 33 (λ a t u tail. TabExtra a t u tail) (λ a t u tail. refl) layout whole,
+                                                    (
+                                                      int_two_texts_row 34 (λ a t u tail. WindowExtra a t u tail) (λ a t u tail. refl) layout whole,
+                                                      tt,
+                                                    ),
+                                                  ),
+                                                ),
+                                              ),
+                                            ),
+                                          ),
+                                        ),
+                                      ),
+                                    ),
+                                  ),
+                                ),
+                              ),
+                            ),
+                          ),
+                        ),
+                      ),
+                    ),
+                  ),
+                ),
+              ),
+            ),
+          ),
+        ),
+      ),
+    ),
+  ),
+)
 
 pub row_of_shape : (id : ℕ) (layout : Layout) → IsWhole layout → shape_of id ≡ Some (shape layout) → RowOf id layout
-row_of_shape id layout whole e0 =
-    at_id 0 id _ _ _ e0 (row_of_id layout 0 id _ whole (two_ints_row 0 (λ a b. TabWindow a b) (λ a b. refl))) (λ e1.
-    at_id 2 id _ _ _ e1 (row_of_id layout 2 id _ whole (two_ints_row 2 (λ a b. TabIndex a b) (λ a b. refl))) (λ e2.
-    at_id 5 id _ _ _ e2 (row_of_id layout 5 id _ whole (two_ints_row 5 (λ a b. PrunedBack a b) (λ a b. refl))) (λ e3.
-    at_id 6 id _ _ _ e3 (row_of_id layout 6 id _ whole (navigation_row 6 (λ a b n. UpdateNavigation a b n) (λ a b n. refl))) (λ e4.
-    at_id 7 id _ _ _ e4 (row_of_id layout 7 id _ whole (two_ints_row 7 (λ a b. SelectNavigation a b) (λ a b. refl))) (λ e5.
-    at_id 8 id _ _ _ e5 (row_of_id layout 8 id _ whole (two_ints_row 8 (λ a b. SelectTab a b) (λ a b. refl))) (λ e6.
-    at_id 9 id _ _ _ e6 (row_of_id layout 9 id _ whole (two_ints_row 9 (λ a b. WindowKind a b) (λ a b. refl))) (λ e7.
-    at_id 11 id _ _ _ e7 (row_of_id layout 11 id _ whole (two_ints_row 11 (λ a b. PrunedFront a b) (λ a b. refl))) (λ e8.
-    at_id 12 id _ _ _ e8 (row_of_id layout 12 id _ whole (int_flag_row 12 (λ a b. Pinned a b) (λ a b. refl))) (λ e9.
-    at_id 13 id _ _ _ e9 (row_of_id layout 13 id _ whole (int_text_row 13 (λ a t tail. Extension a t tail) (λ a t tail. refl))) (λ e10.
-    at_id 14 id _ _ _ e10 (row_of_id layout 14 id _ whole (six_ints_row 14 (λ a b. WindowBounds a b) (λ a b. refl))) (λ e11.
-    at_id 15 id _ _ _ e11 (row_of_id layout 15 id _ whole (int_text_row 15 (λ a t tail. WindowApp a t tail) (λ a t tail. refl))) (λ e12.
-    at_id 16 id _ _ _ e12 (row_of_id layout 16 id _ whole (int_time_row 16 (λ a t. TabClosed a t) (λ a t. refl))) (λ e13.
-    at_id 17 id _ _ _ e13 (row_of_id layout 17 id _ whole (int_time_row 17 (λ a t. WindowClosed a t) (λ a t. refl))) (λ e14.
-    at_id 19 id _ _ _ e14 (row_of_id layout 19 id _ whole (int_text_row 19 (λ a t tail. SessionStorage a t tail) (λ a t tail. refl))) (λ e15.
-    at_id 20 id _ _ _ e15 (row_of_id layout 20 id _ whole (int_row 20 (λ a. ActiveWindow a) (λ a. refl))) (λ e16.
-    at_id 21 id _ _ _ e16 (row_of_id layout 21 id _ whole (int_time_row 21 (λ a t. LastActive a t) (λ a t. refl))) (λ e17.
-    at_id 23 id _ _ _ e17 (row_of_id layout 23 id _ whole (int_text_row 23 (λ a t tail. Workspace a t tail) (λ a t tail. refl))) (λ e18.
-    at_id 24 id _ _ _ e18 (row_of_id layout 24 id _ whole (three_ints_row 24 (λ a b c. Pruned a b c) (λ a b c. refl))) (λ e19.
-    at_id 25 id _ _ _ e19 (row_of_id layout 25 id _ whole (tab_group_row 25 (λ a h l b. TabGroup a h l b) (λ a h l b. refl))) (λ e20.
-    at_id 27 id _ _ _ e20 (row_of_id layout 27 id _ whole (group_row 27 (λ g. GroupData g) (λ g. refl))) (λ e21.
-    at_id 28 id _ _ _ e21 (row_of_id layout 28 id _ whole (int_text_row 28 (λ a t tail. TabGuid a t tail) (λ a t tail. refl))) (λ e22.
-    at_id 29 id _ _ _ e22 (row_of_id layout 29 id _ whole (int_rest_row 29 (λ a tail. UserAgent a tail) (λ a tail. refl))) (λ e23.
-    at_id 31 id _ _ _ e23 (row_of_id layout 31 id _ whole (int_text_row 31 (λ a t tail. UserTitle a t tail) (λ a t tail. refl))) (λ e24.
-    at_id 32 id _ _ _ e24 (row_of_id layout 32 id _ whole (int_flag_row 32 (λ a b. AllWorkspaces a b) (λ a b. refl))) (λ e25.
-    at_id 33 id _ _ _ e25 (row_of_id layout 33 id _ whole (int_two_texts_row 33 (λ a t u tail. TabExtra a t u tail) (λ a t u tail. refl))) (λ e26.
-    at_id 34 id _ _ _ e26 (row_of_id layout 34 id _ whole (int_two_texts_row 34 (λ a t u tail. WindowExtra a t u tail) (λ a t u tail. refl))) (λ e27.
-    absurd cc)))))))))))))))))))))))))))
+row_of_shape id layout whole e =
+    let line = found_shape shapes id (shape layout) e in
+    found (LineHolds layout) shapes (lines_hold layout whole) id line.0 line.1 line.2
 
 -- a navigation and a group keep what their layouts ask for
 pub navigation_whole : (tab index : ℤ) (n : Navigation) → IsWhole (Pickled (navigation_items tab index n.url n.title n.page_state n.transition) n.rest)

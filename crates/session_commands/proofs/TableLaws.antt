@@ -2,16 +2,20 @@
 -- what is written for a command reads back.
 use Rattle.std.proofs.Common.{◌≡◌, ℕ, ℤ, ◌≤◌, true, List, length, is_some, Option, Some, None, subst, refl, sym, ap, ◌∙◌}
 use Rattle.std.proofs.Props.{props}
-use Rattle.session_commands.specs.PayloadLayout.{Layout, IsLaidOut, Shape, shape}
-use Rattle.session_commands.specs.Faults.{shape_of, shape_fault, fault_of}
-use Rattle.session_commands.specs.Table.{Row, Known, Kept, row, Holds, Payload, row_id, row_bytes, id_of, payload_of, RowFits, RowIsWhole, IsInRange, IsKnown, IsSound}
-use Rattle.std.specs.Prelude.{IfNone}
-use Rattle.session_commands.specs.declared.fault.PayloadFault.{PayloadFault}
+use Rattle.payload_rows.specs.PayloadLayout.{Layout, IsLaidOut, Shape, shape}
+use Rattle.payload_rows.specs.Faults.{shape_fault}
+use Rattle.payload_rows.specs.Shapes.{fields_of}
+use Rattle.payload_rows.specs.Contents.{Content, Laid, Verbatim}
+use Rattle.payload_rows.specs.declared.shape.Shape.{Shape as Named}
+use Rattle.session_commands.specs.Faults.{name_of, shape_of, fault_of}
+use Rattle.session_commands.specs.Table.{Row, Known, Kept, row, told, Holds, Payload, row_id, row_bytes, id_of, payload_of, RowFits, RowIsWhole, IsInRange, IsKnown, IsSound}
+use Rattle.std.specs.Prelude.{IfNone, option_map}
+use Rattle.payload_rows.specs.declared.fault.PayloadFault.{PayloadFault}
 use Rattle.session_commands.specs.declared.raw.RawCommand.{RawCommand}
 use Rattle.session_commands.specs.declared.command.SessionCommand.{SessionCommand}
 use Rattle.session_commands.specs.declared.command.SessionCommand.TheVariants.{UpdateNavigation, GroupData, Raw}
-use Rattle.session_commands.proofs.FieldLaws.{AreBytes}
-use Rattle.session_commands.proofs.LayoutLaws.{accepted, one_layout, laid_out, whole_of, layout_written, length-layout}
+use Rattle.payload_rows.proofs.FieldLaws.{AreBytes}
+use Rattle.payload_rows.proofs.LayoutLaws.{accepted, one_layout, laid_out, whole_of, layout_written, length-layout}
 use Rattle.navigation_entry.specs.declared.navigation.Navigation.{Navigation}
 use Rattle.navigation_entry.specs.declared.group.GroupInfo.{GroupInfo}
 use Rattle.session_commands.proofs.RowLaws.{Joined, joined, row_injective, row_of_shape, navigation_whole, group_whole}
@@ -124,6 +128,47 @@ pub row_has_none : (c : SessionCommand) (id : ℕ) (payload : List ℕ) → leng
 row_has_none c id payload short known h =
     let own : id ≡ known.id = known_id c id payload known.id known.layout known.is h in
     has_no_fault c id known.layout payload short (subst (λ (x : ℕ). row c ≡ Known x known.layout) (sym own) known.is) h
+
+-- ---- what is read of a shape, and what a row tells
+
+-- no row of the table has the id
+pub unknown_id : (id : ℕ) (payload : List ℕ) → None ≡ name_of id → is_some (fault_of id payload) ≡ true
+unfolding fault_of
+unknown_id id payload none = rw (← none) refl
+
+-- the payload isn't of the id's shape
+pub refused : (id : ℕ) (payload : List ℕ) (name : Named) → Some name ≡ name_of id → is_some (shape_fault (Some (fields_of name)) payload) ≡ true → is_some (fault_of id payload) ≡ true
+unfolding fault_of
+refused id payload name is fault = rw (← is) fault
+
+pub shape_is : (id : ℕ) (name : Named) (s : Shape) → Some name ≡ name_of id → s ≡ fields_of name → shape_of id ≡ Some s
+shape_is id name s is same = ap (option_map fields_of) (sym is) ∙ ap (λ (x : Shape). Some x) (sym same)
+
+-- the payload is the command's
+pub row_holds : (c : SessionCommand) (id : ℕ) (layout : Layout) (payload : List ℕ) → row c ≡ Known id layout → IsLaidOut layout payload → Payload id c payload
+row_holds c id layout payload is laid = subst (λ (r : Row). Holds r id payload) (sym is) (refl, laid)
+
+told_known : (r : Row) (id : ℕ) (layout : Layout) → (id, Laid layout) ≡ told r → r ≡ Known id layout
+told_known (Known own l) id layout e =
+    let ids : id ≡ own = ap (λ (x : ℕ × Content). x.0) e in
+    let same : Laid layout ≡ Laid l = ap (λ (x : ℕ × Content). x.1) e in
+    let layouts : layout ≡ l = cc in rw (ids, layouts) refl
+told_known (Kept raw) id layout e = let same : Laid layout ≡ Verbatim raw.payload = ap (λ (x : ℕ × Content). x.1) e in absurd cc
+
+-- a command that tells a layout has the row
+pub tells_row : (c : SessionCommand) (id : ℕ) (what : Content) (layout : Layout) → (id, what) ≡ told (row c) → what ≡ Laid layout → row c ≡ Known id layout
+tells_row c id what layout e is = told_known (row c) id layout (ap (λ (x : Content). (id, x)) (sym is) ∙ e)
+
+pub tells_shape : (c : SessionCommand) (id : ℕ) (what : Content) (layout : Layout) → (id, what) ≡ told (row c) → what ≡ Laid layout → shape_of id ≡ Some (shape layout)
+tells_shape c id what layout e is =
+    let j : Joined c (Known id layout) = rw (tells_row c id what layout e is) at (joined c) in j.0
+
+-- and no other command has it
+pub same_row : (c d : SessionCommand) (id : ℕ) (what : Content) (layout : Layout) → (id, what) ≡ told (row c) → what ≡ Laid layout → row d ≡ Known id layout → d ≡ c
+same_row c d id what layout e is own =
+    let first : Joined c (Known id layout) = rw (tells_row c id what layout e is) at (joined c) in
+    let second : Joined d (Known id layout) = rw own at (joined d) in
+    row_injective c d id id layout layout first second refl refl
 
 -- a navigation and a group keep what writing asks for
 pub navigation_is_sound : (tab index : ℤ) (n : Navigation) → IsSound (UpdateNavigation tab index n)

@@ -1,87 +1,49 @@
--- Why no row of the table of commands holds for a payload.
-use Rattle.std.specs.Prelude.{ℕ, List, [], ◌∷◌, length, Option, Some, None, option_map, if◌then◌else◌, ◌==◌}
-use Rattle.pickle_cells.specs.PickleLayout.{IntKind, TextKind, pickled_fault}
-use Rattle.navigation_entry.specs.Layouts.{navigation_kinds, group_kinds}
-use Rattle.session_commands.specs.FixedReading.{IntField, Int64Field, Uint64Field, FlagField, FreeField, width}
-use Rattle.session_commands.specs.PayloadLayout.{Shape, FixedShape, PickledShape}
-use Rattle.session_commands.specs.declared.fault.PayloadFault.{PayloadFault}
-use Rattle.session_commands.specs.declared.fault.PayloadFault.TheVariants.{UnknownId, Length, Pickle}
+-- The ids of session commands with the shapes of their payloads, and why no row holds for a payload.
+use Rattle.std.specs.Prelude.{ℕ, List, [], ◌∷◌, Option, option_map}
+use Rattle.payload_rows.specs.PayloadLayout.{Shape}
+use Rattle.payload_rows.specs.Shapes.{fields_of, shape_at}
+use Rattle.payload_rows.specs.Faults.{shape_fault}
+use Rattle.payload_rows.specs.declared.fault.PayloadFault.{PayloadFault}
+use Rattle.payload_rows.specs.declared.shape.Shape.{Shape as Named}
+use Rattle.payload_rows.specs.declared.shape.Shape.TheVariants.{Int, TwoInts, ThreeInts, IntFlag, IntTime, WindowBounds, TabGroup, IntRest, IntText, IntTwoTexts, Navigation, Group}
 
-abbrev pub int_shape : Shape
-int_shape = FixedShape (IntField ∷ [])
+abbrev pub shapes : List (ℕ × Named)
+shapes =
+    (0, TwoInts)
+    ∷ (2, TwoInts)
+    ∷ (5, TwoInts)
+    ∷ (6, Navigation)
+    ∷ (7, TwoInts)
+    ∷ (8, TwoInts)
+    ∷ (9, TwoInts)
+    ∷ (11, TwoInts)
+    ∷ (12, IntFlag)
+    ∷ (13, IntText)
+    ∷ (14, WindowBounds)
+    ∷ (15, IntText)
+    ∷ (16, IntTime)
+    ∷ (17, IntTime)
+    ∷ (19, IntText)
+    ∷ (20, Int)
+    ∷ (21, IntTime)
+    ∷ (23, IntText)
+    ∷ (24, ThreeInts)
+    ∷ (25, TabGroup)
+    ∷ (27, Group)
+    ∷ (28, IntText)
+    ∷ (29, IntRest)
+    ∷ (31, IntText)
+    ∷ (32, IntFlag)
+    ∷ (33, IntTwoTexts)
+    ∷ (34, IntTwoTexts)
+    ∷ []
 
-abbrev pub two_ints_shape : Shape
-two_ints_shape = FixedShape (IntField ∷ IntField ∷ [])
+-- the shape of the payloads of an id, by its name and by its fields
+abbrev pub name_of : ℕ → Option Named
+name_of id = shape_at shapes id
 
-abbrev pub three_ints_shape : Shape
-three_ints_shape = FixedShape (IntField ∷ IntField ∷ IntField ∷ [])
-
-abbrev pub six_ints_shape : Shape
-six_ints_shape = FixedShape (IntField ∷ IntField ∷ IntField ∷ IntField ∷ IntField ∷ IntField ∷ [])
-
-abbrev pub int_flag_shape : Shape
-int_flag_shape = FixedShape (IntField ∷ FlagField ∷ FreeField 3 ∷ [])
-
-abbrev pub int_time_shape : Shape
-int_time_shape = FixedShape (IntField ∷ FreeField 4 ∷ Int64Field ∷ [])
-
-abbrev pub tab_group_shape : Shape
-tab_group_shape = FixedShape (IntField ∷ FreeField 4 ∷ Uint64Field ∷ Uint64Field ∷ FlagField ∷ FreeField 7 ∷ [])
-
-abbrev pub int_rest_shape : Shape
-int_rest_shape = PickledShape (IntKind ∷ [])
-
-abbrev pub int_text_shape : Shape
-int_text_shape = PickledShape (IntKind ∷ TextKind ∷ [])
-
-abbrev pub int_two_texts_shape : Shape
-int_two_texts_shape = PickledShape (IntKind ∷ TextKind ∷ TextKind ∷ [])
-
-abbrev pub navigation_shape : Shape
-navigation_shape = PickledShape navigation_kinds
-
-abbrev pub group_shape : Shape
-group_shape = PickledShape group_kinds
-
--- the shape of the payloads of an id with a row, as the table has them
 abbrev pub shape_of : ℕ → Option Shape
-shape_of id =
-    if id == 0 then Some two_ints_shape else
-    (if id == 2 then Some two_ints_shape else
-    (if id == 5 then Some two_ints_shape else
-    (if id == 6 then Some navigation_shape else
-    (if id == 7 then Some two_ints_shape else
-    (if id == 8 then Some two_ints_shape else
-    (if id == 9 then Some two_ints_shape else
-    (if id == 11 then Some two_ints_shape else
-    (if id == 12 then Some int_flag_shape else
-    (if id == 13 then Some int_text_shape else
-    (if id == 14 then Some six_ints_shape else
-    (if id == 15 then Some int_text_shape else
-    (if id == 16 then Some int_time_shape else
-    (if id == 17 then Some int_time_shape else
-    (if id == 19 then Some int_text_shape else
-    (if id == 20 then Some int_shape else
-    (if id == 21 then Some int_time_shape else
-    (if id == 23 then Some int_text_shape else
-    (if id == 24 then Some three_ints_shape else
-    (if id == 25 then Some tab_group_shape else
-    (if id == 27 then Some group_shape else
-    (if id == 28 then Some int_text_shape else
-    (if id == 29 then Some int_rest_shape else
-    (if id == 31 then Some int_text_shape else
-    (if id == 32 then Some int_flag_shape else
-    (if id == 33 then Some int_two_texts_shape else
-    (if id == 34 then Some int_two_texts_shape else None))))))))))))))))))))))))))
-
-abbrev pub length_fault : ℕ → List ℕ → Option PayloadFault
-length_fault wanted payload = if length payload == wanted then None else Some (Length wanted (length payload))
-
--- the first test of a shape that a payload fails
-abbrev pub shape_fault : Option Shape → List ℕ → Option PayloadFault
-shape_fault None payload = Some UnknownId
-shape_fault (Some (FixedShape kinds)) payload = length_fault (width kinds) payload
-shape_fault (Some (PickledShape kinds)) payload = option_map Pickle (pickled_fault kinds payload)
+shape_of id = option_map fields_of (name_of id)
 
 -- the first test that a payload fails, None where a row holds
 unfoldable pub fault_of : ℕ → List ℕ → Option PayloadFault

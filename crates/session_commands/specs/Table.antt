@@ -4,7 +4,8 @@ use Rattle.std.specs.Prelude.{◌≡◌, ℕ, List, [], ◌∷◌, is_some, true
 use Rattle.pickle_cells.specs.Layout.{Int, Int64, Uint64, Flag, Free}
 use Rattle.pickle_cells.specs.PickleLayout.{Int as IntItem, Text as TextItem}
 use Rattle.navigation_entry.specs.Layouts.{navigation_items, group_items}
-use Rattle.session_commands.specs.PayloadLayout.{Layout, Fixed, Pickled, IsLaidOut, FitsLayout, IsWhole, layout_bytes}
+use Rattle.payload_rows.specs.PayloadLayout.{Layout, Fixed, Pickled, IsLaidOut}
+use Rattle.payload_rows.specs.Contents.{Content, Laid, Verbatim, content_bytes, FitsContent, IsWholeContent}
 use Rattle.session_commands.specs.Faults.{fault_of}
 use Rattle.session_commands.specs.declared.raw.RawCommand.{RawCommand}
 use Rattle.session_commands.specs.declared.command.SessionCommand.{SessionCommand}
@@ -57,13 +58,16 @@ Holds (Kept raw) id payload = (id ≡ raw.id) × (payload ≡ raw.payload)
 abbrev pub Payload : ℕ → SessionCommand → List ℕ → Type 0
 Payload id command payload = Holds (row command) id payload
 
+-- the id and the content that a row writes
+abbrev pub told : Row → ℕ × Content
+told (Known id layout) = (id, Laid layout)
+told (Kept raw) = (raw.id, Verbatim raw.payload)
+
 abbrev pub row_id : Row → ℕ
-row_id (Known id layout) = id
-row_id (Kept raw) = raw.id
+row_id r = (told r).0
 
 abbrev pub row_bytes : Row → List ℕ
-row_bytes (Known id layout) = layout_bytes layout
-row_bytes (Kept raw) = raw.payload
+row_bytes r = content_bytes (told r).1
 
 -- the id and the payload that are written for a command
 abbrev pub id_of : SessionCommand → ℕ
@@ -73,8 +77,7 @@ abbrev pub payload_of : SessionCommand → List ℕ
 payload_of command = row_bytes (row command)
 
 abbrev pub RowFits : Row → Type 0
-RowFits (Known id layout) = FitsLayout layout
-RowFits (Kept raw) = Unit {0}
+RowFits r = FitsContent (told r).1
 
 -- the command has a row, and so isn't raw
 pub record IsKnown (command : SessionCommand) : Type 0 where
@@ -87,8 +90,7 @@ abbrev pub IsInRange : SessionCommand → Type 0
 IsInRange command = RowFits (row command)
 
 abbrev pub RowIsWhole : Row → Type 0
-RowIsWhole (Known id layout) = IsWhole layout
-RowIsWhole (Kept raw) = Unit {0}
+RowIsWhole r = IsWholeContent (told r).1
 
 -- the tail of a pickled command has whole words, and its payload at most 65,534 bytes
 abbrev pub IsSound : SessionCommand → Type 0

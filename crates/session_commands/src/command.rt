@@ -5,7 +5,7 @@ use navigation_entry::{Bounds, GroupInfo, Navigation};
 use pickle_cells::Blob;
 
 /// A command of a session file. Ids of tabs and windows are signed numbers of 32 bits.
-#[derive(Debug, PartialEq, Eq, PartialOrd, Ord, Hash, Drop)]
+#[derive(Debug, PartialEq, Eq, Drop)]
 pub enum SessionCommand {
     /// Id 0: the tab stands in the window.
     TabWindow {
@@ -43,7 +43,7 @@ pub enum SessionCommand {
         window: i32,
         kind: i32,
     },
-    /// Id 11: so many pages at the tab's front are gone.
+    /// Id 11: so many of the first pages of the tab are gone.
     PrunedFront {
         tab: i32,
         count: i32,

@@ -6,7 +6,7 @@ use pickle_cells::Blob;
 use std::alloc::AllocError;
 
 /// An id and a payload for which no row holds. The initial-state marker is the one with id 255 and no payload.
-#[derive(Debug, PartialEq, Eq, PartialOrd, Ord, Hash, Drop)]
+#[derive(Debug, PartialEq, Eq, Drop)]
 pub struct RawCommand {
     pub id: u8,
     pub payload: Blob,

@@ -1,0 +1,9 @@
+pub mod FixedReading
+pub mod PayloadLayout
+pub mod RowLayouts
+pub mod Shapes
+pub mod Faults
+pub mod Contents
+pub use Rattle.pickle_cells.specs.Layout
+pub use Rattle.pickle_cells.specs.PickleLayout
+pub use Rattle.navigation_entry.specs.Layouts
