@@ -5,10 +5,10 @@ use Rattle.std.proofs.lemmas.List.{reverse-append, length-append, map-append}
 use Rattle.session_disk.proofs.DiskFiles.{settled_from_stamps}
 use Rattle.std.proofs.Math.Seq.{take-append_seam}
 use Rattle.std.specs.List.{list_any, last_or}
-use Rattle.session_disk.specs.declared.disk_file.DiskFile.{DiskFile}
-use Rattle.session_disk.specs.declared.change_log.Undo.{Undo}
-use Rattle.session_disk.specs.declared.change_log.Undo.TheVariants.{Created, Appended, Synced, Settled, Told}
-use Rattle.session_disk.specs.declared.change_log.Undo.TheVariants as change
+use Rattle.session_disk.specs.declared.memory.file_list.DiskFile.{DiskFile}
+use Rattle.session_disk.specs.declared.memory.change_log.Undo.{Undo}
+use Rattle.session_disk.specs.declared.memory.change_log.Undo.TheVariants.{Created, Appended, Synced, Settled, Told}
+use Rattle.session_disk.specs.declared.memory.change_log.Undo.TheVariants as change
 use Rattle.session_disk.specs.DiskFiles.{standing_of, standing_in, removed_of, is_listed, unsettled_stamps}
 use Rattle.session_disk.specs.Histories.{after}
 use Rattle.session_disk.specs.Moments.{Moment, Standing, Removed, with_file, with_change, settled_file, after_create, after_append, after_sync, after_remove, after_settle, after_tell}

@@ -5,8 +5,8 @@ use Rattle.std.proofs.lemmas.List.{take_all, take-append-drop}
 use Rattle.std.proofs.Math.Seq.{take-suc, drop-cons}
 use Rattle.std.specs.List.{AllByRecursion, list_all}
 use Rattle.std.specs.Option.{option_or, is_some}
-use Rattle.session_disk.specs.declared.crash.Keep.{Keep}
-use Rattle.session_disk.specs.declared.disk_file.DiskFile.{DiskFile}
+use Rattle.session_disk.specs.declared.memory.crash.Keep.{Keep}
+use Rattle.session_disk.specs.declared.memory.file_list.DiskFile.{DiskFile}
 use Rattle.session_disk.specs.ChangeLog.{moment_of}
 use Rattle.session_disk.specs.Crashes.{IsKeepable, IsOnce, image_of, kept_under, cut_to, file_meant, resting}
 use Rattle.session_disk.specs.DiskFiles.{standing_of, standing_in, all_above, is_listed}
@@ -25,9 +25,9 @@ IsOnce-push (x ∷ xs) keep once none =
     let apart : kept_under x.stamp (xs ++ keep ∷ []) ≡ None = grind (arith, nat_tests, kept_under-append x.stamp xs (keep ∷ [])) in
     (ap is_some apart, IsOnce-push xs keep once.1 (grind (arith, nat_tests)))
 
-IsOnce-front : (xs ys : List Keep) (keep : Keep) → IsOnce (xs ++ keep ∷ ys) → IsNone (kept_under keep.stamp xs)
-IsOnce-front [] ys keep once = refl
-IsOnce-front (x ∷ xs) ys keep once = grind (arith, nat_tests, kept_under-append x.stamp xs (keep ∷ ys), IsOnce-front xs ys keep once.1)
+IsOnce-prefix : (xs ys : List Keep) (keep : Keep) → IsOnce (xs ++ keep ∷ ys) → IsNone (kept_under keep.stamp xs)
+IsOnce-prefix [] ys keep once = refl
+IsOnce-prefix (x ∷ xs) ys keep once = grind (arith, nat_tests, kept_under-append x.stamp xs (keep ∷ ys), IsOnce-prefix xs ys keep once.1)
 
 abbrev pub IsCuttable : Moment → Keep → Type 0
 IsCuttable m keep = IsSome (cut_to keep.bytes (file_meant m keep.stamp))
@@ -44,12 +44,12 @@ kept_cut m (keep ∷ keeps) stamp kept cuts e = here_or_later (stamp == keep.sta
         rw (same, length_kept) cuts.0
     here_or_later false t later = later (grind arith)
 
--- what is laid after a front of the list
-pub record Laid (m : Moment) (front : List Keep) (left : List DiskFile) : Type 0 where
+-- what is laid after a prefix of the list
+pub record Laid (m : Moment) (prefix : List Keep) (left : List DiskFile) : Type 0 where
   pub listed : is_listed left ≡ true
-  pub stands : standing_in left ≡ (resting (image_of m front)).standing
-  pub once : IsOnce front
-  pub cuts : AllByRecursion (IsCuttable m) front
+  pub stands : standing_in left ≡ (resting (image_of m prefix)).standing
+  pub once : IsOnce prefix
+  pub cuts : AllByRecursion (IsCuttable m) prefix
 
 pub Laid-none : (m : Moment) → Laid m [] []
 Laid-none m = record { listed = refl; stands = refl; once = tt; cuts = tt }
@@ -66,31 +66,31 @@ image_kept m keeps stamp cuts = kept (kept_under stamp keeps) refl
     kept None e = rw e
     kept (Some n) e = rw e (kept_cut m keeps stamp n cuts e)
 
--- what stands among the files that are laid is what the front of the list keeps
-pub laid_kept : (m : Moment) (front : List Keep) (left : List DiskFile) (stamp : ℕ) → Laid m front left → is_some (standing_in left stamp) ≡ is_some (kept_under stamp front)
-laid_kept m front left stamp laid =
-    ap (λ (standing : ℕ → Option Standing). is_some (standing stamp)) laid.stands ∙ is_some-option_map safe_file (image_of m front stamp) ∙ image_kept m front stamp laid.cuts
+-- what stands among the files that are laid is what the start of the list keeps
+pub laid_kept : (m : Moment) (prefix : List Keep) (left : List DiskFile) (stamp : ℕ) → Laid m prefix left → is_some (standing_in left stamp) ≡ is_some (kept_under stamp prefix)
+laid_kept m prefix left stamp laid =
+    ap (λ (standing : ℕ → Option Standing). is_some (standing stamp)) laid.stands ∙ is_some-option_map safe_file (image_of m prefix stamp) ∙ image_kept m prefix stamp laid.cuts
 
 -- one more file
-module _ (m : Moment) (front : List Keep) (left : List DiskFile) (laid : Laid m front left) (keep : Keep) (bytes : List ℕ) (fresh : kept_under keep.stamp front ≡ None) (cut : cut_to keep.bytes (file_meant m keep.stamp) ≡ Some bytes) where
-  next_image : (stamp : ℕ) → with_file keep.stamp (Some (safe_file bytes)) (resting (image_of m front)).standing stamp ≡ (resting (image_of m (front ++ keep ∷ []))).standing stamp
-  next_image stamp = rw (kept_under-append stamp front (keep ∷ [])) (at_stamp (stamp == keep.stamp) refl (kept_under stamp front) refl)
+module _ (m : Moment) (prefix : List Keep) (left : List DiskFile) (laid : Laid m prefix left) (keep : Keep) (bytes : List ℕ) (fresh : kept_under keep.stamp prefix ≡ None) (cut : cut_to keep.bytes (file_meant m keep.stamp) ≡ Some bytes) where
+  next_image : (stamp : ℕ) → with_file keep.stamp (Some (safe_file bytes)) (resting (image_of m prefix)).standing stamp ≡ (resting (image_of m (prefix ++ keep ∷ []))).standing stamp
+  next_image stamp = rw (kept_under-append stamp prefix (keep ∷ [])) (at_stamp (stamp == keep.stamp) refl (kept_under stamp prefix) refl)
     where
-      at_stamp : (b : Bool) → (stamp == keep.stamp) ≡ b → (o : Option ℕ) → kept_under stamp front ≡ o → with_file keep.stamp (Some (safe_file bytes)) (resting (image_of m front)).standing stamp ≡ option_map safe_file (option_and_then (λ kept. cut_to kept (file_meant m stamp)) (option_or (kept_under stamp front) (kept_under stamp (keep ∷ []))))
+      at_stamp : (b : Bool) → (stamp == keep.stamp) ≡ b → (o : Option ℕ) → kept_under stamp prefix ≡ o → with_file keep.stamp (Some (safe_file bytes)) (resting (image_of m prefix)).standing stamp ≡ option_map safe_file (option_and_then (λ kept. cut_to kept (file_meant m stamp)) (option_or (kept_under stamp prefix) (kept_under stamp (keep ∷ []))))
       at_stamp true t o e =
           let same : stamp ≡ keep.stamp = grind (arith, nat_tests) in
-          let fresh_here : kept_under stamp front ≡ None = rw same fresh in
+          let fresh_here : kept_under stamp prefix ≡ None = rw same fresh in
           let cut_here : cut_to keep.bytes (file_meant m stamp) ≡ Some bytes = rw same cut in
           rw (t, fresh_here, cut_here)
       at_stamp false t None e = rw (e, t)
       at_stamp false t (Some kept) e = rw (e, t)
 
-  pub Laid-next : (left' : List DiskFile) → is_listed left' ≡ true → standing_in left' ≡ with_file keep.stamp (Some (safe_file bytes)) (standing_in left) → Laid m (front ++ keep ∷ []) left'
+  pub Laid-next : (left' : List DiskFile) → is_listed left' ≡ true → standing_in left' ≡ with_file keep.stamp (Some (safe_file bytes)) (standing_in left) → Laid m (prefix ++ keep ∷ []) left'
   Laid-next left' listed stands = record {
     listed = listed;
     stands = stands ∙ ap (with_file keep.stamp (Some (safe_file bytes))) laid.stands ∙ (λ j stamp. next_image stamp j);
-    once = IsOnce-push front keep laid.once fresh;
-    cuts = AllByRecursion-append (IsCuttable m) front (keep ∷ []) laid.cuts (ap is_some cut, tt);
+    once = IsOnce-push prefix keep laid.once fresh;
+    cuts = AllByRecursion-append (IsCuttable m) prefix (keep ∷ []) laid.cuts (ap is_some cut, tt);
   }
 
 none_from : {X : Type 0} (o : Option X) → is_some o ≡ false → o ≡ None
@@ -105,7 +105,7 @@ module _ (m : Moment) (keeps : List Keep) (i : ℕ) (left : List DiskFile) (laid
   -- its stamp has come before
   pub come_again : is_some (standing_in left (get_or keeps i d).stamp) ≡ true → IsKeepable m keeps → ⊥
   come_again stands keepable =
-      let none = IsOnce-front (take i keeps) (drop (suc i) keeps) (get_or keeps i d) (subst IsOnce split_at keepable.once) in
+      let none = IsOnce-prefix (take i keeps) (drop (suc i) keeps) (get_or keeps i d) (subst IsOnce split_at keepable.once) in
       let kept = laid_kept m (take i keeps) left (get_or keeps i d).stamp laid in
       cc
 

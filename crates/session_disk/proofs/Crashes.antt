@@ -5,8 +5,8 @@ use Rattle.std.proofs.lemmas.Bool.Decides.{nat_tests}
 use Rattle.std.proofs.lemmas.List.{length-take}
 use Rattle.std.specs.List.{AllByRecursion}
 use Rattle.std.specs.Option.{is_some}
-use Rattle.session_disk.specs.declared.crash.Keep.{Keep}
-use Rattle.session_disk.specs.Crashes.{Remains, remains_of_standing, remains_of_removed, last_removed, file_meant, cut_to, kept_under, IsOnce, IsKeepable, image_of, IsOfMeant, Lists, resting}
+use Rattle.session_disk.specs.declared.memory.crash.Keep.{Keep}
+use Rattle.session_disk.specs.Crashes.{Remains, remains_of_standing, remains_of_removed, last_removed, file_meant, cut_to, kept_under, IsOnce, IsKeepable, image_of, IsOfMeant, Lists, IsListedImage, resting}
 use Rattle.session_disk.specs.Images.{Image, IsCut, IsImage, MayGo, MayLeave, as_it_reads}
 use Rattle.session_disk.specs.Moments.{Moment, Standing, Removed, IsAtRest, safe_file}
 use Rattle.session_disk.proofs.CrashLoop.{IsCuttable, kept_cut, image_kept, is_some-option_map}
@@ -22,18 +22,18 @@ module _ (file : Remains) (bytes : List ℕ) where
       tested true t =
           let low : file.synced ≤ kept = grind (arith, nat_tests) in
           let high : kept ≤ length file.bytes = grind (arith, nat_tests) in
-          let front : bytes ≡ take kept file.bytes = grind arith in
-          (record { kept = kept; synced_kept = low; within = high; front = front }, omega (arith, ap length front, length-take kept file.bytes))
+          let prefix : bytes ≡ take kept file.bytes = grind arith in
+          (record { kept = kept; synced_kept = low; within = high; prefix = prefix }, omega (arith, ap length prefix, length-take kept file.bytes))
       tested false t =
           let gone = rw t at e in
           cc
 
   cut_from : IsCut file.synced file.bytes bytes → cut_to (length bytes) (Some file) ≡ Some bytes
   cut_from cut =
-      let long : length bytes ≡ cut.kept = omega (arith, ap length cut.front, length-take cut.kept file.bytes, cut.within) in
+      let long : length bytes ≡ cut.kept = omega (arith, ap length cut.prefix, length-take cut.kept file.bytes, cut.within) in
       let low : nat_le file.synced cut.kept ≡ true = grind (arith, nat_tests, cut.synced_kept) in
       let high : nat_le cut.kept (length file.bytes) ≡ true = grind (arith, nat_tests, cut.within) in
-      rw (long, low, high, cut.front)
+      rw (long, low, high, cut.prefix)
 
 -- what the image has under a stamp is a cut of the file that is meant
 pub image_of_meant : (m : Moment) (keeps : List Keep) → IsOfMeant m (image_of m keeps)
@@ -144,9 +144,17 @@ module _ (m : Moment) (keeps : List Keep) (image : Image) (meant : IsOfMeant m i
           cc
       stays stamp file stands settled (Some bytes) may = refl
 
--- A list that isn't keepable has the files of no such image.
-pub no_image : (m : Moment) (keeps : List Keep) → (IsKeepable m keeps → ⊥) → (image : Image) → IsImage m image → IsOfMeant m image → Lists keeps image → ⊥
-no_image m keeps never image is meant lists = never (listed_keepable m keeps image meant lists is)
+-- a keepable list has its image
+pub keepable_listed : (m : Moment) (keeps : List Keep) → IsKeepable m keeps → IsListedImage m keeps (image_of m keeps)
+keepable_listed m keeps keepable = record {
+  left = keepable_image m keeps keepable;
+  meant = image_of_meant m keeps;
+  lists = keepable_lists m keeps keepable;
+}
+
+-- a list that isn't keepable has none
+pub no_image : (m : Moment) (keeps : List Keep) → (IsKeepable m keeps → ⊥) → (image : Image) → IsListedImage m keeps image → ⊥
+no_image m keeps never image listed = never (listed_keepable m keeps image listed.meant listed.lists listed.left)
 
 -- Where each removed file is the one that its stamp means, as where no stamp has two files, each image is of those.
 pub image_meant : (m : Moment) (image : Image) → ((file : Removed) → Contains m.removed file → file_meant m file.stamp ≡ Some (remains_of_removed file)) → IsImage m image → IsOfMeant m image

@@ -3,7 +3,7 @@ use Rattle.std.proofs.Common.{◌≡◌, ◌≢◌, ℕ, zero, suc, ◌<◌, ◌
 use Rattle.std.proofs.lemmas.Bool.Decides.{nat_tests}
 use Rattle.std.proofs.lemmas.List.{take_all, drop_all, append-nil, length-append}
 use Rattle.std.specs.List.{list_any}
-use Rattle.session_disk.specs.declared.disk_file.DiskFile.{DiskFile}
+use Rattle.session_disk.specs.declared.memory.file_list.DiskFile.{DiskFile}
 use Rattle.session_disk.specs.Moments.{Standing, with_file, settled_file, IsBelow, IsNewest, IsNewestBelow}
 use Rattle.session_disk.specs.DiskFiles.{standing_of, standing_in, settle_file, all_above, is_bounded, is_listed, place_of, end_of, unsettled_stamps}
 
@@ -116,27 +116,27 @@ is_listed-without [] (suc i) l = refl
 is_listed-without (first ∷ files) zero l = grind (arith, nat_tests)
 is_listed-without (first ∷ files) (suc i) l = grind (arith, nat_tests, is_listed-without files i, all_above-without first.stamp files i)
 
--- all names settled, from the front
-abbrev pub settled_front : ℕ → List DiskFile → List DiskFile
-settled_front zero files = files
-settled_front (suc n) [] = []
-settled_front (suc n) (file ∷ files) = settle_file file ∷ settled_front n files
+-- all names settled, from the start
+abbrev pub settled_prefix : ℕ → List DiskFile → List DiskFile
+settled_prefix zero files = files
+settled_prefix (suc n) [] = []
+settled_prefix (suc n) (file ∷ files) = settle_file file ∷ settled_prefix n files
 
-pub settled_front-next : (files : List DiskFile) (i : ℕ) (d : DiskFile) → i < length files → set (settled_front i files) i (settle_file (get_or (settled_front i files) i d)) ≡ settled_front (suc i) files
-settled_front-next [] i d h = absurd (omega arith)
-settled_front-next (file ∷ files) zero d h = refl
-settled_front-next (file ∷ files) (suc i) d h = ap (λ fs. settle_file file ∷ fs) (settled_front-next files i d (omega arith))
+pub settled_prefix-next : (files : List DiskFile) (i : ℕ) (d : DiskFile) → i < length files → set (settled_prefix i files) i (settle_file (get_or (settled_prefix i files) i d)) ≡ settled_prefix (suc i) files
+settled_prefix-next [] i d h = absurd (omega arith)
+settled_prefix-next (file ∷ files) zero d h = refl
+settled_prefix-next (file ∷ files) (suc i) d h = ap (λ fs. settle_file file ∷ fs) (settled_prefix-next files i d (omega arith))
 
-settled_front-all : (files : List DiskFile) → settled_front (length files) files ≡ map settle_file files
-settled_front-all [] = refl
-settled_front-all (file ∷ files) = ap (λ fs. settle_file file ∷ fs) (settled_front-all files)
+settled_prefix-all : (files : List DiskFile) → settled_prefix (length files) files ≡ map settle_file files
+settled_prefix-all [] = refl
+settled_prefix-all (file ∷ files) = ap (λ fs. settle_file file ∷ fs) (settled_prefix-all files)
 
 -- the list after the loop, as a vector gives it back
-pub settled_front-whole : (files items : List DiskFile) (n i : ℕ) → n ≡ length files → length items ≡ n → i ≡ n → items ≡ settled_front i files → take n (items ++ drop (length items) files) ≡ map settle_file files
-settled_front-whole files items n i en el ei e =
-    let all = settled_front-all files in
+pub settled_prefix-whole : (files items : List DiskFile) (n i : ℕ) → n ≡ length files → length items ≡ n → i ≡ n → items ≡ settled_prefix i files → take n (items ++ drop (length items) files) ≡ map settle_file files
+settled_prefix-whole files items n i en el ei e =
+    let all = settled_prefix-all files in
     let whole = drop_all (length items) files (omega (arith, en, el)) in
-    let front = take_all n (items ++ []) (omega (arith, el, length-append items [])) in
+    let prefix = take_all n (items ++ []) (omega (arith, el, length-append items [])) in
     let same = append-nil items in
     cc
 

@@ -2,20 +2,40 @@
 -- crash leaves only what has P, comes from one call, composes and weakens. A disk at rest has one image.
 use Rattle.std.proofs.Common.{◌≡◌, ℕ, ◌≤◌, List, [], ◌∷◌, ◌++◌, length, Option, Some, None, option_map, Contains, Result, refl, sym, ap, ◌∙◌, subst, inl, inr, append_assoc, arith}
 use Rattle.std.proofs.lemmas.List.{take_all, append_cancel_right}
-use Rattle.std.proofs.lemmas.List.Elements.{All-contains, All-contains_itself, All-from_recursion, All-weaker, recursion_from_All, Contains-append_left, Contains-push}
+use Rattle.std.proofs.lemmas.List.Elements.{Contains-append_left, Contains-append_cases, Contains-push_cases}
 use Rattle.std.specs.List.{AllByRecursion}
 use Rattle.session_disk.specs.declared.failure.DiskError.{DiskError}
 use Rattle.session_disk.specs.Moments.{Moment, Standing, Removed, IsAtRest}
 use Rattle.session_disk.specs.Images.{Image, IsCut, IsImage, MayGo, MayLeave, OnlyLeaves, as_it_reads}
-use Rattle.session_disk.specs.Histories.{History, moments, after, Changes, Leaves, IsPairSince}
+use Rattle.session_disk.specs.Histories.{History, moments, after, Changes, Leaves}
 
 -- where nothing has changed yet
 pub Leaves-refl : (P : ℕ → Image → Type 0) (old : History) → OnlyLeaves P old.now → Leaves old old P
-Leaves-refl P old entry = record { since = []; grew = refl; entry = entry; each = tt }
+Leaves-refl P old entry = record {
+  since = [];
+  grew = refl;
+  pairs = λ m among. elim (Contains-push_cases [] old.now m among) [
+    | inl none ↦ absurd (omega (arith, none.1))
+    | inr same ↦ subst (OnlyLeaves P) same entry
+  ];
+}
 
 -- one step later
 pub Leaves-after : (P : ℕ → Image → Type 0) (old : History) (step : Moment → Moment) → OnlyLeaves P old.now → OnlyLeaves P (step old.now) → Leaves old (after step old) P
-Leaves-after P old step entry next = record { since = step old.now ∷ []; grew = refl; entry = entry; each = (next, tt) }
+Leaves-after P old step entry next = record {
+  since = step old.now ∷ [];
+  grew = refl;
+  pairs = λ m among. elim (Contains-append_cases (step old.now ∷ []) (old.now ∷ []) m among) [
+    | inl later ↦ subst (OnlyLeaves P) (only_one (step old.now) m later) next
+    | inr first ↦ subst (OnlyLeaves P) (only_one old.now m first) entry
+  ];
+}
+  where
+    only_one : (x m : Moment) → Contains (x ∷ []) m → x ≡ m
+    only_one x m among = elim (Contains-push_cases [] x m among) [
+      | inl none ↦ absurd (omega (arith, none.1))
+      | inr same ↦ same
+    ]
 
 -- what holds of each of two lists holds of each of their join
 pub AllByRecursion-append : {X : Type 0} (P : X → Type 0) (xs ys : List X) → AllByRecursion P xs → AllByRecursion P ys → AllByRecursion P (xs ++ ys)
@@ -32,8 +52,10 @@ pub Leaves-trans : {P : ℕ → Image → Type 0} {a b c : History} → Leaves a
 Leaves-trans {P} {a} {b} {c} p q = record {
   since = q.since ++ p.since;
   grew = q.grew ∙ ap (λ ms. q.since ++ ms) p.grew ∙ sym (append_assoc q.since p.since (moments a));
-  entry = p.entry;
-  each = AllByRecursion-append (OnlyLeaves P) q.since p.since q.each p.each;
+  pairs = λ m among. elim (Contains-append_cases q.since (p.since ++ a.now ∷ []) m (subst (λ (ms : List Moment). Contains ms m) (append_assoc q.since p.since (a.now ∷ [])) among)) [
+    | inl later ↦ q.pairs m (Contains-append_left q.since (b.now ∷ []) m later)
+    | inr earlier ↦ p.pairs m earlier
+  ];
 }
 
 -- from P to what follows from it
@@ -41,9 +63,26 @@ pub Leaves-weaken : {P : ℕ → Image → Type 0} (Q : ℕ → Image → Type 0
 Leaves-weaken {P} Q f p = record {
   since = p.since;
   grew = p.grew;
-  entry = λ image h. f _ image (p.entry image h);
-  each = AllByRecursion-weaken (OnlyLeaves P) (OnlyLeaves Q) (λ m g image h. f m.told image (g image h)) p.since p.each;
+  pairs = λ m among image is. f m.told image (p.pairs m among image is);
 }
+
+-- two properties at once
+pub Leaves-both : {P Q : ℕ → Image → Type 0} {old new : History} → Leaves old new P → Leaves old new Q → Leaves old new (λ told image. P told image × Q told image)
+Leaves-both {P} {Q} {old} p q =
+    let same = append_cancel_right p.since q.since (moments old) (sym p.grew ∙ q.grew) in
+    record {
+      since = p.since;
+      grew = p.grew;
+      pairs = λ m among image is. (p.pairs m among image is, q.pairs m (subst (λ (since : List Moment). Contains (since ++ old.now ∷ []) m) same among) image is);
+    }
+
+-- the last moment is among those since the entry
+pub Leaves-now : {P : ℕ → Image → Type 0} {old new : History} → Leaves old new P → OnlyLeaves P new.now
+Leaves-now {P} {old} {new} p = p.pairs new.now (last_moment p.since p.grew)
+  where
+    last_moment : (since : List Moment) → moments new ≡ since ++ moments old → Contains (since ++ old.now ∷ []) new.now
+    last_moment [] grew = (0, omega arith, let same : old.now ≡ new.now = cc in same)
+    last_moment (m ∷ ms) grew = (0, omega arith, let same : m ≡ new.now = cc in same)
 
 -- from one call: the moment of entry leaves only P, and so does each moment that the call may have made of it
 pub Leaves-call : {T : Type 0} {old new : History} {result : Result T DiskError} {all : ℕ} {step : ℕ → Moment → Moment} (P : ℕ → Image → Type 0) → Changes old new result all step → OnlyLeaves P old.now → ((n : ℕ) → n ≤ all → OnlyLeaves P (step n old.now)) → Leaves old new P
@@ -53,29 +92,9 @@ Leaves-call {old = old} {step = step} P changes entry next =
       | inr some ↦ subst (λ h. Leaves old h P) (sym some.2) (Leaves-after P old (step some.0) entry (next some.0 some.1))
     ]
 
--- Each pair since the entry has P; and where the history grew from the entry on and each pair has P, the clause holds.
-pub Leaves-pair : {P : ℕ → Image → Type 0} {old new : History} (told : ℕ) (image : Image) → Leaves old new P → IsPairSince old new told image → P told image
-Leaves-pair {P} {old} told image p pair =
-    let same = append_cancel_right pair.since p.since (moments old) (sym pair.grew ∙ p.grew) in
-    let each = AllByRecursion-append (OnlyLeaves P) p.since (old.now ∷ []) p.each (p.entry, tt) in
-    let there = subst (λ (since : List Moment). Contains (since ++ old.now ∷ []) pair.moment) same pair.among in
-    let only = All-contains (OnlyLeaves P) (p.since ++ old.now ∷ []) pair.moment (All-from_recursion (OnlyLeaves P) (p.since ++ old.now ∷ []) each) there in
-    subst (λ n. P n image) pair.number (only image pair.left)
-
-pub Leaves-from_pairs : {P : ℕ → Image → Type 0} {old new : History} (since : List Moment) → moments new ≡ since ++ moments old → ((told : ℕ) (image : Image) → IsPairSince old new told image → P told image) → Leaves old new P
-Leaves-from_pairs {P} {old} {new} since grew pairs = record {
-  since = since;
-  grew = grew;
-  entry = at_moment old.now (Contains-push since old.now);
-  each = recursion_from_All (OnlyLeaves P) since (All-weaker (Contains since) (OnlyLeaves P) (λ m there. at_moment m (Contains-append_left since (old.now ∷ []) m there)) since (All-contains_itself since));
-}
-  where
-    at_moment : (m : Moment) → Contains (since ++ old.now ∷ []) m → OnlyLeaves P m
-    at_moment m among image left = pairs m.told image (record { since = since; grew = grew; moment = m; among = among; number = refl; left = left })
-
 -- a cut of what is synced whole is the whole
 whole_cut : (bytes cut : List ℕ) (synced : ℕ) → synced ≡ length bytes → IsCut synced bytes cut → cut ≡ bytes
-whole_cut bytes cut synced e c = c.front ∙ take_all c.kept bytes (omega (arith, e, c.synced_kept))
+whole_cut bytes cut synced e c = c.prefix ∙ take_all c.kept bytes (omega (arith, e, c.synced_kept))
 
 none_contained : (xs : List Removed) (x : Removed) → xs ≡ [] → Contains xs x → ⊥
 none_contained xs x e h = omega (arith, h.1, ap length e)

@@ -7,3 +7,5 @@ mod DiskFiles
 mod Finding
 mod Meaning
 mod Prefixes
+mod ReadingLaws
+mod WritingLaws

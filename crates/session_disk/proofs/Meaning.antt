@@ -3,7 +3,7 @@ use Rattle.std.proofs.Common.{◌≡◌, ℕ, ◌==◌, true, List, [], ◌∷�
 use Rattle.std.proofs.lemmas.Bool.Decides.{nat_tests}
 use Rattle.std.specs.List.{find, list_all}
 use Rattle.std.specs.Option.{is_some}
-use Rattle.session_disk.specs.declared.disk_file.DiskFile.{DiskFile}
+use Rattle.session_disk.specs.declared.memory.file_list.DiskFile.{DiskFile}
 use Rattle.session_disk.specs.ChangeLog.{moment_of}
 use Rattle.session_disk.specs.Crashes.{remains_of_removed, file_meant, last_removed}
 use Rattle.session_disk.specs.DiskFiles.{standing_of, standing_in, removed_of, remains_of, is_bounded, is_listed}

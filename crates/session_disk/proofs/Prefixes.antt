@@ -7,7 +7,7 @@ use Rattle.std.specs.Cmp.Lexicographic.{pointwise, same_text, other_text}
 module _ (name prefix : List ℕ) where
   pub rest_found : (rest : List ℕ) → pointwise nat_eq (take (length prefix) name) prefix ≡ true → rest ≡ drop (length prefix) name → name ≡ prefix ++ rest
   rest_found rest same e =
-      let front = same_text (take (length prefix) name) prefix (sym same) in
+      let start = same_text (take (length prefix) name) prefix (sym same) in
       let whole = take-append-drop (length prefix) name in
       cc
 

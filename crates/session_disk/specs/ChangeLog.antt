@@ -1,10 +1,10 @@
 -- The earlier moments of a disk in memory, from the present one and the log of what changed.
 use Rattle.std.specs.Prelude.{ℕ, ◌-◌, Bool, not, nat_eq, List, [], ◌∷◌, length, take, reverse, map, Option, Some, None, option_map}
 use Rattle.std.specs.List.{list_any, last_or}
-use Rattle.session_disk.specs.declared.disk_file.DiskFile.{DiskFile}
-use Rattle.session_disk.specs.declared.change_log.Undo.{Undo}
-use Rattle.session_disk.specs.declared.change_log.Undo.TheVariants.{Created, Appended, Synced, Settled, Told}
-use Rattle.session_disk.specs.declared.change_log.Undo.TheVariants as change
+use Rattle.session_disk.specs.declared.memory.file_list.DiskFile.{DiskFile}
+use Rattle.session_disk.specs.declared.memory.change_log.Undo.{Undo}
+use Rattle.session_disk.specs.declared.memory.change_log.Undo.TheVariants.{Created, Appended, Synced, Settled, Told}
+use Rattle.session_disk.specs.declared.memory.change_log.Undo.TheVariants as change
 use Rattle.session_disk.specs.DiskFiles.{standing_in, removed_of}
 use Rattle.session_disk.specs.Histories.{History}
 use Rattle.session_disk.specs.Moments.{Moment, Standing, Removed, with_file, with_change}

@@ -1,8 +1,8 @@
 -- What a crash leaves where it is told which files to keep, and how much of each.
 use Rattle.std.specs.Prelude.{◌≡◌, ℕ, nat_le, true, ◌&&◌, if◌then◌else◌, ◌==◌, List, [], ◌∷◌, length, take, reverse, Option, Some, None, IsSome, IsNone, option_map, option_and_then}
 use Rattle.std.specs.List.{AllByRecursion, find}
-use Rattle.session_disk.specs.declared.crash.Keep.{Keep}
-use Rattle.session_disk.specs.Images.{Image, IsCut}
+use Rattle.session_disk.specs.declared.memory.crash.Keep.{Keep}
+use Rattle.session_disk.specs.Images.{Image, IsCut, IsImage}
 use Rattle.session_disk.specs.Moments.{Moment, Standing, Removed, safe_file}
 
 -- the bytes of a file, and how many of them a crash keeps at least
@@ -62,6 +62,12 @@ IsOfMeant m image = (stamp : ℕ) (bytes : List ℕ) → image stamp ≡ Some by
 pub record Lists (keeps : List Keep) (image : Image) : Type 0 where
   pub once : IsOnce keeps
   pub lengths : (stamp : ℕ) → kept_under stamp keeps ≡ option_map length (image stamp)
+
+-- an image of the moment, of the files that the stamps mean, with just the files and the lengths of the list
+pub record IsListedImage (m : Moment) (keeps : List Keep) (image : Image) : Type 0 where
+  pub left : IsImage m image
+  pub meant : IsOfMeant m image
+  pub lists : Lists keeps image
 
 -- these files and no others, all safe; nothing was told, nothing made
 abbrev pub resting : Image → Moment

@@ -1,6 +1,6 @@
 -- The files of a disk in memory, as a list by rising stamp, and what they stand for.
 use Rattle.std.specs.Prelude.{ℕ, suc, ◌^◌, nat_lt, nat_le, Bool, true, ◌&&◌, if◌then◌else◌, ◌==◌, List, [], ◌∷◌, length, Option, Some, None}
-use Rattle.session_disk.specs.declared.disk_file.DiskFile.{DiskFile}
+use Rattle.session_disk.specs.declared.memory.file_list.DiskFile.{DiskFile}
 use Rattle.session_disk.specs.Crashes.{Remains}
 use Rattle.session_disk.specs.Moments.{Standing, Removed}
 
@@ -35,12 +35,12 @@ abbrev pub is_listed : List DiskFile → Bool
 is_listed [] = true
 is_listed (file ∷ files) = (all_above file.stamp files && nat_lt file.stamp (2 ^ 63)) && (nat_le (length file.bytes) (2 ^ 62) && is_listed files)
 
--- how many files at the front have stamps below a bound
+-- how many files at the start have stamps below a bound
 abbrev pub place_of : ℕ → List DiskFile → ℕ
 place_of bound [] = 0
 place_of bound (file ∷ files) = if nat_lt file.stamp bound then suc (place_of bound files) else 0
 
--- how many files at the front are below a bound, where there is one
+-- how many files at the start are below a bound, where there is one
 abbrev pub end_of : Option ℕ → List DiskFile → ℕ
 end_of None files = length files
 end_of (Some bound) files = place_of bound files

@@ -2,12 +2,12 @@
 use Rattle.std.specs.Prelude.{ℕ, zero, suc, ◌-◌, min, Bool, false, ◌&&◌, ◌||◌, if◌then◌else◌, ◌==◌, List, [], map, Option, Some, None, option_map, Result, Ok, Err}
 use Rattle.std.specs.List.{find}
 use denote.Enum.Bare.{sameb}
-use Rattle.session_disk.specs.contracts.failure_plan.Call.{the_type}
+use Rattle.session_disk.specs.contracts.memory.failure_plan.Call.{the_type}
 use Rattle.session_disk.specs.declared.failure.DiskError.{DiskError}
 use Rattle.session_disk.specs.declared.failure.DiskError.TheVariants.{Failed, Memory}
-use Rattle.session_disk.specs.declared.failure_plan.Call.{Call}
-use Rattle.session_disk.specs.declared.failure_plan.Failure.{Failure}
-use Rattle.session_disk.specs.declared.failure_plan.FailurePlan.{FailurePlan}
+use Rattle.session_disk.specs.declared.memory.failure_plan.Call.{Call}
+use Rattle.session_disk.specs.declared.memory.failure_plan.Failure.{Failure}
+use Rattle.session_disk.specs.declared.memory.failure_plan.FailurePlan.{FailurePlan}
 use Rattle.session_disk.specs.Histories.{History, after}
 use Rattle.session_disk.specs.MemoryStreams.{next_count}
 use Rattle.session_disk.specs.Moments.{Moment}

@@ -1,10 +1,9 @@
 -- The moments of a disk, and what one call, or a run of calls, adds to them.
 use Rattle.std.specs.Prelude.{◌≡◌, ℕ, ◌≤◌, ◌⊎◌, List, [], ◌∷◌, ◌++◌, Contains, Result, OnOk, IsErrOf}
-use Rattle.std.specs.List.{AllByRecursion}
 use Rattle.session_disk.specs.declared.failure.DiskError.{DiskError}
 use Rattle.session_disk.specs.declared.failure.DiskError.TheVariants.{Memory}
 use Rattle.session_disk.specs.Moments.{Moment}
-use Rattle.session_disk.specs.Images.{Image, IsImage, OnlyLeaves}
+use Rattle.session_disk.specs.Images.{Image, IsImage}
 
 -- the present moment and the earlier ones, the latest first
 pub record History : Type 0 where
@@ -25,18 +24,9 @@ pub record Changes {T : Type 0} (old new : History) (result : Result T DiskError
   pub done : (new ≡ old) ⊎ ((some : ℕ) × (some ≤ all) × (new ≡ after (step some) old))
   pub memory : IsErrOf result Memory → new ≡ old
 
--- A crash at the moment of entry or at any later one leaves only pairs that have P.
+-- The history grew from the entry on, and each pair of told number and image that a crash at the moment of entry or at
+-- any later one may leave has P.
 pub record Leaves (old new : History) (P : ℕ → Image → Type 0) : Type 0 where
   pub since : List Moment
   pub grew : moments new ≡ since ++ moments old
-  pub entry : OnlyLeaves P old.now
-  pub each : AllByRecursion (OnlyLeaves P) since
-
--- A crash at the moment of entry or at any later one might have left this image, with this number told.
-pub record IsPairSince (old new : History) (told : ℕ) (image : Image) : Type 0 where
-  pub since : List Moment
-  pub grew : moments new ≡ since ++ moments old
-  pub moment : Moment
-  pub among : Contains (since ++ old.now ∷ []) moment
-  pub number : moment.told ≡ told
-  pub left : IsImage moment image
+  pub pairs : (m : Moment) → Contains (since ++ old.now ∷ []) m → (image : Image) → IsImage m image → P m.told image

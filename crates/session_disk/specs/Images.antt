@@ -11,7 +11,7 @@ pub record IsCut (synced : ℕ) (bytes cut : List ℕ) : Type 0 where
   pub kept : ℕ
   pub synced_kept : synced ≤ kept
   pub within : kept ≤ length bytes
-  pub front : cut ≡ take kept bytes
+  pub prefix : cut ≡ take kept bytes
 
 -- nothing need be left of what stands under a stamp: there is no file, or its name isn't settled
 abbrev pub MayGo : Option Standing → Type 0

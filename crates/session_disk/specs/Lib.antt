@@ -1,5 +1,7 @@
 pub mod Causes
 pub mod Streams
+pub mod Reading
+pub mod Writing
 pub mod MemoryStreams
 pub mod Names
 pub mod Moments

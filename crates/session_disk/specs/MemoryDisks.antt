@@ -2,8 +2,8 @@
 use Rattle.std.specs.Prelude.{◌≡◌, ℕ, Some, None, Result, IsOk, IsErrOf}
 use Rattle.session_disk.specs.declared.failure.DiskError.{DiskError}
 use Rattle.session_disk.specs.declared.failure.DiskError.TheVariants.{Failed}
-use Rattle.session_disk.specs.declared.failure_plan.Call.{Call}
-use Rattle.session_disk.specs.declared.memory_disk.MemoryDisk.{MemoryDisk}
+use Rattle.session_disk.specs.declared.memory.failure_plan.Call.{Call}
+use Rattle.session_disk.specs.declared.memory.disk.MemoryDisk.{MemoryDisk}
 use Rattle.session_disk.specs.FailurePlans.{Plan, planned, after_call, after_part, failures_after}
 use Rattle.session_disk.specs.FailurePlans as failing
 use Rattle.session_disk.specs.Histories.{History}

@@ -29,9 +29,21 @@ pub record Moment : Type 0 where
 abbrev pub with_file : ℕ → Option Standing → (ℕ → Option Standing) → ℕ → Option Standing
 with_file stamp file standing s = if s == stamp then file else standing s
 
+-- the files with the one under a stamp changed
+abbrev pub with_changed : (Standing → Standing) → ℕ → (ℕ → Option Standing) → ℕ → Option Standing
+with_changed change stamp standing = with_file stamp (option_map change (standing stamp)) standing
+
 -- the moment with the file under a stamp changed
 abbrev pub with_change : (Standing → Standing) → ℕ → Moment → Moment
-with_change change stamp m = record m { standing = with_file stamp (option_map change (m.standing stamp)) m.standing }
+with_change change stamp m = record m { standing = with_changed change stamp m.standing }
+
+-- the file with more bytes behind its own
+abbrev pub lengthened : List ℕ → Standing → Standing
+lengthened more file = record file { bytes = file.bytes ++ more }
+
+-- the file with its first bytes safe, up to this length
+abbrev pub secured : ℕ → Standing → Standing
+secured reached file = record file { synced = max file.synced reached }
 
 abbrev pub after_create : ℕ → Moment → Moment
 after_create stamp m = record m {
@@ -40,11 +52,11 @@ after_create stamp m = record m {
 }
 
 abbrev pub after_append : ℕ → List ℕ → Moment → Moment
-after_append stamp bytes = with_change (λ file. record file { bytes = file.bytes ++ bytes }) stamp
+after_append stamp bytes = with_change (lengthened bytes) stamp
 
 -- after a sync that reached this length of the file
 abbrev pub after_sync : ℕ → ℕ → Moment → Moment
-after_sync stamp reached = with_change (λ file. record file { synced = max file.synced reached }) stamp
+after_sync stamp reached = with_change (secured reached) stamp
 
 abbrev pub removed_file : ℕ → Option Standing → List Removed
 removed_file stamp None = []
@@ -76,7 +88,7 @@ bytes_of (Some file) = file.bytes
 abbrev pub bytes_at : ℕ → Moment → List ℕ
 bytes_at stamp m = bytes_of (m.standing stamp)
 
--- n bytes of the file from an offset on are at the front of the buffer, and none only at the file's end or
+-- n bytes of the file from an offset on are at the start of the buffer, and none only at the file's end or
 -- for a buffer without room
 pub record IsReadAt (file : List ℕ) (offset n : ℕ) (buffer : List ℕ) : Type 0 where
   pub within : n ≤ length (drop offset file)

@@ -1,6 +1,6 @@
 -- What a recording stands for.
 use Rattle.std.specs.Prelude.{ℕ, List, [], Some, None}
-use Rattle.session_disk.specs.declared.recording.Recording.{Recording}
+use Rattle.session_disk.specs.declared.memory.recording.Recording.{Recording}
 use Rattle.session_disk.specs.ChangeLog.{moment_of, history_from}
 use Rattle.session_disk.specs.Histories.{History}
 use Rattle.session_disk.specs.Moments.{Moment, with_file, safe_file}

@@ -3,7 +3,7 @@
 use Rattle.std.specs.Prelude.{◌≡◌, ℕ, ◌≤◌, List, [], ◌++◌, length, take, drop, Option, Some, None, Result, MatchResult}
 use Rattle.session_disk.specs.declared.failure.Failed.{Failed}
 
--- n bytes of the text are at the front of the buffer, and none only where there are none
+-- n bytes of the text are at the start of the buffer, and none only where there are none
 pub record IsRead (text : List ℕ) (n : ℕ) (buffer : List ℕ) : Type 0 where
   pub within : n ≤ length text
   pub bytes : take n buffer ≡ take n text

@@ -6,7 +6,7 @@ use decimals::read_decimal;
 use std::alloc::{AllocError, Global};
 
 /// The session's own files, and those of recently closed tabs and windows.
-#[derive(Clone, Copy, Debug, PartialEq, Eq, PartialOrd, Ord, Hash)]
+#[derive(Clone, Copy, Debug, PartialEq, Eq)]
 pub enum Family {
     Session,
     Tabs,

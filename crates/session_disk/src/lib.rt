@@ -1,32 +1,36 @@
-//! The outside as traits: where input comes from, where output goes, the clock, and the disk that holds the
-//! session files of one family; with implementations in memory and over real files. Stands on decimals.
+//! The outside as traits: where input comes from, where output goes, the clock, and the disk that holds the session
+//! files of one family; with implementations in memory and over the real system.
+//!
+//! A disk in memory says what a crash may leave of it:
+//!
+//! ```
+//! let mut disk = MemoryDisk::empty(alloc)?;
+//! disk.create(7)?;
+//! disk.append(7, b"SNSS")?;
+//! // Nothing is synced, so a crash may leave a part of the file.
+//! let left = disk.crash(&[Keep { stamp: 7, bytes: 3 }])?;
+//! assert!(rt; left.is_some());
+//! ```
+//!
+//! Code that is generic over `SessionDisk` runs on it and on a `FolderDisk` alike.
 #![tactic(auto)]
 
-mod change_log;
 mod clock;
-mod crash;
 mod disk;
-mod disk_file;
 mod failure;
-mod failure_plan;
 mod family;
-mod folder;
-mod folder_disk;
-mod memory_disk;
-mod memory_stream;
-mod recording;
-mod std_stream;
+mod memory;
+mod reading;
+mod real;
 mod stream;
+mod writing;
 
-pub use clock::{Clock, FixedClock, StdClock};
-pub use crash::Keep;
+pub use clock::Clock;
 pub use disk::SessionDisk;
-pub use disk_file::{DiskFile, FileBytes};
-pub use failure::{DiskError, Failed};
-pub use failure_plan::{Call, Failure};
+pub use failure::{DiskError, Failed, ReadError};
 pub use family::{Family, file_name, stamp_of};
-pub use folder_disk::FolderDisk;
-pub use memory_disk::MemoryDisk;
-pub use memory_stream::{MemorySink, MemorySource};
-pub use std_stream::{StdSink, StdSource};
+pub use memory::{Call, DiskFile, Failure, FixedClock, Keep, MemoryDisk, MemorySink, MemorySource};
+pub use reading::read_to_end;
+pub use real::{FolderDisk, StdClock, StdSink, StdSource};
 pub use stream::{Sink, Source};
+pub use writing::write_all;

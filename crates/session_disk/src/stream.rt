@@ -5,7 +5,7 @@ ghost use Rattle.session_disk.specs.Streams.{TakesFrom, AddsTo};
 
 use crate::failure::Failed;
 
-/// Bytes that are read once, from front to end.
+/// Bytes that are read once, from start to end.
 pub trait Source: Drop {
     /// The bytes that are left, where the source tells them.
     ghost left: { Self → Option (List ℕ) };
@@ -13,7 +13,7 @@ pub trait Source: Drop {
     /// How often a read has failed; it stops at 2^64 - 1.
     ghost faults: { Self → ℕ };
 
-    /// Reads into the front of the buffer and answers how many bytes came, 0 only at the end.
+    /// Reads into the start of the buffer and answers how many bytes came, 0 only at the end.
     fn read(&mut self, into: &mut [u8]) -> Result<usize, Failed>
         requires { 0 < length into.old }
         ensures bound { IfOk result (λ n. n ≤ length into.old) }
@@ -29,7 +29,7 @@ pub trait Sink: Drop {
     /// How often a write has failed; it stops at 2^64 - 1.
     ghost faults: { Self → ℕ };
 
-    /// Writes some bytes of the front, at least one, and answers how many.
+    /// Writes some of the first bytes, at least one, and answers how many.
     fn write(&mut self, bytes: &[u8]) -> Result<usize, Failed>
         requires { 0 < length bytes.now }
         ensures bound { IfOk result (λ n. (0 < n) × (n ≤ length bytes.now)) }

@@ -1,6 +1,0 @@
-use Rattle.std.proofs.Common.{◌∙◌}
-use Rattle.session_disk.proofs.Meaning.{has_standing}
-use Rattle.session_disk.proofs.disk_file.has.Goals as goal
-
-pub returns : goal.returns
-returns c = c.is_some.ensures ∙ has_standing c.args.files.now c.args.stamp c.get.result c.get.ensures
