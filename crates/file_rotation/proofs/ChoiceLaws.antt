@@ -109,13 +109,13 @@ module _ {S C : Type 0} (kind : Kind S C) where
   pub good_first : (image : Image) (first : S) (commands : List C) → Recovers kind image first → IsGood kind first commands 0 image
   good_first image first commands recovers = record { count = 0; holds_told = omega arith; within = omega arith; recovers = recovers }
 
-  -- and stays so as more commands are issued
+  -- a good image stays good as more commands are issued
   pub good_longer : (image : Image) (first : S) (commands more : List C) (told : ℕ) → IsGood kind first commands told image → IsGood kind first (commands ++ more) told image
   good_longer image first commands more told good = record {
     count = good.count;
     holds_told = good.holds_told;
     within = omega (arith, good.within, length-append commands more);
-    recovers = let front = take-append-le good.count commands more good.within in rw front good.recovers;
+    recovers = let prefix = take-append-le good.count commands more good.within in rw prefix good.recovers;
   }
 
   pub good_same : (image other : Image) (first : S) (commands : List C) (told : ℕ) → SameLawful image other → IsGood kind first commands told image → IsGood kind first commands told other

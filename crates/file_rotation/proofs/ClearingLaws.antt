@@ -22,7 +22,7 @@ may_go_loosened stamp s (Some file) h =
     elim (cases_Bool (goes stamp s file)) [ inl yes' ↦ rw yes' refl | inr no' ↦ rw no' h ]
 
 module _ (stamp : ℕ) (old : Moment) where
-  -- and a file that goes may be missing
+  -- a file that goes may be missing
   may_go : (s : ℕ) → IsToGo old stamp s → MayGo ((loosened stamp old).standing s)
   may_go s going = rw going.stands (rw going.older refl)
 

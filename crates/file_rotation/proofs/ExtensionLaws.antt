@@ -1,5 +1,5 @@
 -- A lawful file with frames appended, also where a crash cut them anywhere: it stays lawful, and reads to the state after
--- some front of the appended commands.
+-- some prefix of the appended commands.
 use Rattle.std.proofs.Common.{◌≡◌, ℕ, ◌<◌, ◌≤◌, zero, suc, List, [], ◌∷◌, ◌++◌, length, take, drop, Some, refl, sym, ap, ◌∙◌, append_assoc, inl, arith}
 use Rattle.std.proofs.lemmas.List.{length-append, take-append-le, drop-append-le}
 use Rattle.std.proofs.lemmas.List.Elements.{Contains-append_left}
@@ -30,12 +30,12 @@ pub record Extended (bytes : List ℕ) (frames more : List Frame) (n : ℕ) : Ty
   pub covers : (k : ℕ) → k ≤ length more → length (flat_map frame_bytes (take k more)) ≤ n → k ≤ count
   pub lawful : IsLawful (bytes ++ take n (flat_map frame_bytes more)) (frames ++ take count more)
 
-reads_append : (front later : List Frame) (more rest : List ℕ) → AllByRecursion IsFrame front → Reads more later rest → Reads (flat_map frame_bytes front ++ more) (front ++ later) rest
-reads_append front later more rest each reads = record {
-  whole = ap (λ (x : List ℕ). flat_map frame_bytes front ++ x) reads.whole
-      ∙ sym (append_assoc (flat_map frame_bytes front) (flat_map frame_bytes later) rest)
-      ∙ ap (λ (x : List ℕ). x ++ rest) (sym (flat_map-append front later));
-  each = All-append IsFrame front later each reads.each;
+reads_append : (prefix later : List Frame) (more rest : List ℕ) → AllByRecursion IsFrame prefix → Reads more later rest → Reads (flat_map frame_bytes prefix ++ more) (prefix ++ later) rest
+reads_append prefix later more rest each reads = record {
+  whole = ap (λ (x : List ℕ). flat_map frame_bytes prefix ++ x) reads.whole
+      ∙ sym (append_assoc (flat_map frame_bytes prefix) (flat_map frame_bytes later) rest)
+      ∙ ap (λ (x : List ℕ). x ++ rest) (sym (flat_map-append prefix later));
+  each = All-append IsFrame prefix later each reads.each;
   ended = reads.ended;
 }
 
@@ -78,7 +78,7 @@ extended_whole bytes frames more file each = record {
 }
 
 module _ {S C : Type 0} (kind : Kind S C) where
-  -- some front of frames is that front of their commands
+  -- some prefix of frames is that prefix of their commands
   pub AreCommands-take : (frames : List Frame) (commands : List C) (n : ℕ) → AreCommands kind frames commands → AreCommands kind (take n frames) (take n commands)
   AreCommands-take frames commands zero h = tt
   AreCommands-take [] [] (suc n) h = tt
@@ -86,7 +86,7 @@ module _ {S C : Type 0} (kind : Kind S C) where
   AreCommands-take (f ∷ frames) [] (suc n) h = absurd h
   AreCommands-take (f ∷ frames) (c ∷ commands) (suc n) h = (h.0, AreCommands-take frames commands n h.1)
 
-  -- the frames of a file, and then a front of others, fold to the state after that front of their commands
+  -- the frames of a file, and then a prefix of others, fold to the state after that prefix of their commands
   pub folds_extended : (frames more : List Frame) (state : S) (commands : List C) (n : ℕ) → FoldsTo kind frames state → AreCommands kind more commands → FoldsTo kind (frames ++ take n more) (fold kind state (take n commands))
   folds_extended frames more state commands n folds are = (
     folds.0 ++ take n commands,

@@ -27,17 +27,17 @@ one_lawful bytes fs gs a b = one_file bytes a.version b.version fs gs a.file b.f
 
 -- bytes of a slice, with a header, are a file
 has_file : (bytes head : List ℕ) (version : Version) → ((k : ℕ) → get_or bytes k 0 < 256) → 8 ≤ length bytes → head ≡ take 8 bytes → header_of head ≡ Ok version → (frames : List Frame) × IsFile bytes version frames
-has_file bytes head version range long front said =
+has_file bytes head version range long prefix said =
     let (frames, rest, reads) = has_reading (drop 8 bytes) (λ k. rw get_or-drop (range (8 + k))) in
-    (frames, record { head = long; said = ap header_of (sym front) ∙ said; rest = rest; read = reads })
+    (frames, record { head = long; said = ap header_of (sym prefix) ∙ said; rest = rest; read = reads })
 
 pub lawful_one : (bytes head : List ℕ) → ((k : ℕ) → get_or bytes k 0 < 256) → 8 ≤ length bytes → head ≡ take 8 bytes → header_of head ≡ Ok One → IsLawfulAs bytes One
-lawful_one bytes head range long front said =
-    let (frames, file) = has_file bytes head One range long front said in
+lawful_one bytes head range long prefix said =
+    let (frames, file) = has_file bytes head One range long prefix said in
     record { frames = frames; lawful = record { version = One; file = file; marked = tt }; said = refl }
 
 pub lawful_three : (bytes head : List ℕ) → ((k : ℕ) → get_or bytes k 0 < 256) → 8 ≤ length bytes → head ≡ take 8 bytes → header_of head ≡ Ok Three →
     ((frames : List Frame) (rest : List ℕ) → Reads (drop 8 bytes) frames rest → Contains frames marker) → IsLawfulAs bytes Three
-lawful_three bytes head range long front said marked =
-    let (frames, file) = has_file bytes head Three range long front said in
+lawful_three bytes head range long prefix said marked =
+    let (frames, file) = has_file bytes head Three range long prefix said in
     record { frames = frames; lawful = record { version = Three; file = file; marked = marked frames file.rest file.read }; said = refl }

@@ -26,7 +26,7 @@ module _ (m : Moment) (stamp : ℕ) (file : Standing) (safe : IsSafe m stamp fil
   left_safe (Some bytes) (inl h) =
       let same : h.0 ≡ file = (let here = h.1 in let stands = safe.stands in cc) in
       let cut : IsCut file.synced file.bytes bytes = subst (λ (f : Standing). IsCut f.synced f.bytes bytes) same h.2 in
-      ap Some (cut.front ∙ take_all cut.kept file.bytes (omega (arith, safe.synced, cut.synced_kept)))
+      ap Some (cut.prefix ∙ take_all cut.kept file.bytes (omega (arith, safe.synced, cut.synced_kept)))
   left_safe (Some bytes) (inr h) = absurd (settled_stays file safe.settled (subst MayGo safe.stands h.4))
 
   pub safe_left : (image : Image) → IsImage m image → image stamp ≡ Some file.bytes

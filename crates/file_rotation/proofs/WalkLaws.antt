@@ -53,18 +53,18 @@ passed_more bytes at next frames f passed b e =
 pub passed_all : (bytes : List ℕ) (at : ℕ) (frames : List Frame) → Passed bytes at frames → begins_frame (drop at bytes) ≡ false → Reads (drop 8 bytes) frames (drop at bytes)
 passed_all bytes at frames passed none = record { whole = passed.whole; each = passed.each; ended = none }
 
--- what a reading finds behind frames that stand in front of it
-pub record ReadsBehind (front : List Frame) (more : List ℕ) (frames : List Frame) (rest : List ℕ) : Type 0 where
+-- what a reading finds behind frames that stand before it
+pub record ReadsBehind (prefix : List Frame) (more : List ℕ) (frames : List Frame) (rest : List ℕ) : Type 0 where
   pub later : List Frame
-  pub parts : frames ≡ front ++ later
+  pub parts : frames ≡ prefix ++ later
   pub reads : Reads more later rest
 
-behind_one : (f : Frame) (front : List Frame) (more : List ℕ) (frames : List Frame) (rest : List ℕ) → IsFrame f → Reads (frame_bytes f ++ (flat_map frame_bytes front ++ more)) frames rest →
-    ((gs : List Frame) → Reads (flat_map frame_bytes front ++ more) gs rest → ReadsBehind front more gs rest) → ReadsBehind (f ∷ front) more frames rest
-behind_one f front more [] rest h reads later =
-    absurd (both_ways (begins_frame rest) reads.ended (ap begins_frame (sym reads.whole) ∙ begins_frame-frame f (flat_map frame_bytes front ++ more) h))
-behind_one f front more (g ∷ gs) rest h reads later =
-    let first = one_frame f g (flat_map frame_bytes front ++ more) (flat_map frame_bytes gs ++ rest) h reads.each.0
+behind_one : (f : Frame) (prefix : List Frame) (more : List ℕ) (frames : List Frame) (rest : List ℕ) → IsFrame f → Reads (frame_bytes f ++ (flat_map frame_bytes prefix ++ more)) frames rest →
+    ((gs : List Frame) → Reads (flat_map frame_bytes prefix ++ more) gs rest → ReadsBehind prefix more gs rest) → ReadsBehind (f ∷ prefix) more frames rest
+behind_one f prefix more [] rest h reads later =
+    absurd (both_ways (begins_frame rest) reads.ended (ap begins_frame (sym reads.whole) ∙ begins_frame-frame f (flat_map frame_bytes prefix ++ more) h))
+behind_one f prefix more (g ∷ gs) rest h reads later =
+    let first = one_frame f g (flat_map frame_bytes prefix ++ more) (flat_map frame_bytes gs ++ rest) h reads.each.0
     (reads.whole ∙ append_assoc (frame_bytes g) (flat_map frame_bytes gs) rest) in
     let behind = later gs (record { whole = first.1; each = reads.each.1; ended = reads.ended }) in
     record {
@@ -73,11 +73,11 @@ behind_one f front more (g ∷ gs) rest h reads later =
       reads = behind.reads;
     }
 
--- a reading begins with the frames in front, and goes on behind them
-pub reads_behind : (front : List Frame) (more : List ℕ) (frames : List Frame) (rest : List ℕ) → AllByRecursion IsFrame front → Reads (flat_map frame_bytes front ++ more) frames rest → ReadsBehind front more frames rest
+-- a reading begins with the frames before, and goes on behind them
+pub reads_behind : (prefix : List Frame) (more : List ℕ) (frames : List Frame) (rest : List ℕ) → AllByRecursion IsFrame prefix → Reads (flat_map frame_bytes prefix ++ more) frames rest → ReadsBehind prefix more frames rest
 reads_behind [] more frames rest each reads = record { later = frames; parts = refl; reads = reads }
-reads_behind (f ∷ front) more frames rest each reads =
-    behind_one f front more frames rest each.0 (rw append_assoc at reads) (λ gs later. reads_behind front more gs rest each.1 later)
+reads_behind (f ∷ prefix) more frames rest each reads =
+    behind_one f prefix more frames rest each.0 (rw append_assoc at reads) (λ gs later. reads_behind prefix more gs rest each.1 later)
 
 -- the frame at a place that a walk has come to is among the frames of the file
 pub contains_here : (bytes : List ℕ) (at : ℕ) (passed : List Frame) (f : Frame) (frames : List Frame) (rest : List ℕ) → Passed bytes at passed → BeginsWith (drop at bytes) f → Reads (drop 8 bytes) frames rest → Contains frames f

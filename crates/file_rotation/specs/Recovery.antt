@@ -53,7 +53,7 @@ module _ {S C : Type 0} (kind : Kind S C) where
   abbrev pub Recovers : Image → S → Type 0
   Recovers image state = IsFromChosen image state ⊎ (NoneLawful image × (state ≡ kind.start))
 
-  -- The files read to the state after some front of the commands, and at least the told ones are in it.
+  -- The files read to the state after some prefix of the commands, and at least the told ones are in it.
   pub record IsGood (first : S) (commands : List C) (told : ℕ) (image : Image) : Type 0 where
     pub count : ℕ
     pub holds_told : told ≤ count

@@ -35,7 +35,7 @@ pub(crate) struct LawfulFile {
 /// or want of memory.
 pub fn choose<D: SessionDisk>(alloc: Global, disk: &mut D) -> Result<Option<Chosen>, RotateFault>
     ensures in_range { IfOk result (λ found. IfSome found (λ chosen. chosen.stamp < 2 ^ 63)) }
-    ensures chosen { D.tells → IfOk result (IsChoice (as_it_reads (D.history disk.old).now)) }
+    ensures chosen { D.modelled → IfOk result (IsChoice (as_it_reads (D.history disk.old).now)) }
     ensures unchanged { D.history disk.new ≡ D.history disk.old }
     ensures cause { RotateHasCause (D.failed disk.old) (D.failed disk.new) result }
 {
@@ -53,10 +53,10 @@ pub(crate) fn newest_lawful<D: SessionDisk>(
     newest: Option<u64>,
 ) -> Result<Option<LawfulFile>, RotateFault>
     requires in_range { ForSome newest (λ stamp. stamp < 2 ^ 63) }
-    requires newest { D.tells → IsNewestBelow (D.history disk.old).now.standing None newest }
+    requires newest { D.modelled → IsNewestBelow (D.history disk.old).now.standing None newest }
     ensures in_range { IfOk result (λ found. IfSome found (λ file. file.chosen.stamp < 2 ^ 63)) }
     ensures lawful { IfOk result (λ found. IfSome found (λ file. IsLawfulAs file.bytes.items file.chosen.version)) }
-    ensures found { D.tells → IfOk result (λ found. MatchOption found
+    ensures found { D.modelled → IfOk result (λ found. MatchOption found
         (NoneLawful (as_it_reads (D.history disk.old).now))
         (λ file. IsNewestLawful (as_it_reads (D.history disk.old).now) file.chosen.stamp file.bytes.items)) }
     ensures unchanged { D.history disk.new ≡ D.history disk.old }
@@ -89,7 +89,8 @@ fn lawful_version(bytes: &[u8]) -> Option<Version>
 // Whether the marker is among the whole frames of a file.
 fn is_marked(bytes: &[u8]) -> bool
     requires { 8 ≤ length bytes.now }
-    ensures { (frames : List Frame) (rest : List ℕ) → Reads (drop 8 bytes.now) frames rest → (IsTrue result ↔ Contains frames marker) }
+    ensures { (frames : List Frame) (rest : List ℕ) →
+        Reads (drop 8 bytes.now) frames rest → (IsTrue result ↔ Contains frames marker) }
 {
     let mut at = FIRST_FRAME;
     while let Some(frame) = frame_at(bytes, at) {

@@ -18,11 +18,12 @@ use snss_frames::read_header;
 /// each file at most.
 pub fn clear_older<D: SessionDisk>(disk: &mut D, stamp: u64) -> Result<(), RotateFault>
     requires { stamp < 2 ^ 63 }
-    ensures ok { D.tells → OnOk result ((D.history disk.new).now ≡ cleared stamp (D.history disk.old).now) }
+    ensures ok { D.modelled → OnOk result ((D.history disk.new).now ≡ cleared stamp (D.history disk.old).now) }
     // Whatever the answer is.
-    ensures told { D.tells → (D.history disk.new).now.told ≡ (D.history disk.old).now.told }
-    ensures creates { D.tells → (D.history disk.new).now.creates ≡ (D.history disk.old).now.creates }
-    ensures crash { D.tells → Leaves (D.history disk.old) (D.history disk.new) (LeavesWithout (D.history disk.old).now stamp) }
+    ensures told { D.modelled → (D.history disk.new).now.told ≡ (D.history disk.old).now.told }
+    ensures creates { D.modelled → (D.history disk.new).now.creates ≡ (D.history disk.old).now.creates }
+    ensures crash { D.modelled →
+        Leaves (D.history disk.old) (D.history disk.new) (LeavesWithout (D.history disk.old).now stamp) }
     ensures cause { RotateHasCause (D.failed disk.old) (D.failed disk.new) result }
 {
     remove_older(disk, stamp)?;
@@ -30,12 +31,14 @@ pub fn clear_older<D: SessionDisk>(disk: &mut D, stamp: u64) -> Result<(), Rotat
     Ok(())
 }
 
-// The same, but for the settling.
+// Removes these files, and settles nothing.
 fn remove_older<D: SessionDisk>(disk: &mut D, stamp: u64) -> Result<(), DiskError>
     requires { stamp < 2 ^ 63 }
-    ensures ok { D.tells → OnOk result ((s : ℕ) → (D.history disk.new).now.standing s ≡ kept_file stamp s ((D.history disk.old).now.standing s)) }
-    ensures partly { D.tells → PartlyCleared stamp (D.history disk.old).now (D.history disk.new).now }
-    ensures crash { D.tells → Leaves (D.history disk.old) (D.history disk.new) (LeavesWithout (D.history disk.old).now stamp) }
+    ensures ok { D.modelled → OnOk result ((s : ℕ) →
+        (D.history disk.new).now.standing s ≡ kept_file stamp s ((D.history disk.old).now.standing s)) }
+    ensures partly { D.modelled → PartlyCleared stamp (D.history disk.old).now (D.history disk.new).now }
+    ensures crash { D.modelled →
+        Leaves (D.history disk.old) (D.history disk.new) (LeavesWithout (D.history disk.old).now stamp) }
     ensures cause { DiskHasCause (D.failed disk.old) (D.failed disk.new) result }
 {
     let mut bound = stamp;
@@ -49,8 +52,8 @@ fn remove_older<D: SessionDisk>(disk: &mut D, stamp: u64) -> Result<(), DiskErro
 // Removes a file unless it is foreign.
 fn remove_own<D: SessionDisk>(disk: &mut D, stamp: u64) -> Result<(), DiskError>
     requires in_range { stamp < 2 ^ 63 }
-    requires stands { D.tells → IsSome ((D.history disk.old).now.standing stamp) }
-    ensures removes { D.tells → TakesOwn stamp (D.history disk.old) (D.history disk.new) result }
+    requires stands { D.modelled → IsSome ((D.history disk.old).now.standing stamp) }
+    ensures removes { D.modelled → TakesOwn stamp (D.history disk.old) (D.history disk.new) result }
     ensures cause { DiskHasCause (D.failed disk.old) (D.failed disk.new) result }
 {
     if is_foreign(disk, stamp)? {
@@ -62,8 +65,9 @@ fn remove_own<D: SessionDisk>(disk: &mut D, stamp: u64) -> Result<(), DiskError>
 // Whether a file is foreign. Eight bytes of it are read.
 fn is_foreign<D: SessionDisk>(disk: &mut D, stamp: u64) -> Result<bool, DiskError>
     requires in_range { stamp < 2 ^ 63 }
-    requires stands { D.tells → IsSome ((D.history disk.old).now.standing stamp) }
-    ensures value { D.tells → IfOk result (λ foreign. foreign ≡ is_foreign (bytes_at stamp (D.history disk.old).now)) }
+    requires stands { D.modelled → IsSome ((D.history disk.old).now.standing stamp) }
+    ensures value { D.modelled →
+        IfOk result (λ foreign. foreign ≡ is_foreign (bytes_at stamp (D.history disk.old).now)) }
     ensures unchanged { D.history disk.new ≡ D.history disk.old }
     ensures cause { DiskHasCause (D.failed disk.old) (D.failed disk.new) result }
 {

@@ -9,16 +9,16 @@ use crate::fault::RotateFault;
 use session_disk::{DiskError, SessionDisk};
 use std::alloc::Global;
 
-/// Reads a file from its front on until the buffer is full or nothing comes, and answers how many bytes came.
+/// Reads a file from its start on until the buffer is full or nothing comes, and answers how many bytes came.
 pub(crate) fn fill<D: SessionDisk>(
     disk: &mut D,
     stamp: u64,
     into: &mut [u8],
 ) -> Result<usize, DiskError>
     requires in_range { stamp < 2 ^ 63 }
-    requires stands { D.tells → IsSome ((D.history disk.old).now.standing stamp) }
+    requires stands { D.modelled → IsSome ((D.history disk.old).now.standing stamp) }
     ensures bound { IfOk result (λ n. n ≤ length into.old) }
-    ensures bytes { D.tells → IfOk result (λ n. IsFilled (bytes_at stamp (D.history disk.old).now) n into.new) }
+    ensures bytes { D.modelled → IfOk result (λ n. IsFilled (bytes_at stamp (D.history disk.old).now) n into.new) }
     ensures unchanged { D.history disk.new ≡ D.history disk.old }
     ensures cause { DiskHasCause (D.failed disk.old) (D.failed disk.new) result }
 {
@@ -39,8 +39,8 @@ pub(crate) fn read_whole<D: SessionDisk>(
     stamp: u64,
 ) -> Result<Vec<u8>, RotateFault>
     requires in_range { stamp < 2 ^ 63 }
-    requires stands { D.tells → IsSome ((D.history disk.old).now.standing stamp) }
-    ensures bytes { D.tells → IfOk result (λ bytes. bytes.items ≡ bytes_at stamp (D.history disk.old).now) }
+    requires stands { D.modelled → IsSome ((D.history disk.old).now.standing stamp) }
+    ensures bytes { D.modelled → IfOk result (λ bytes. bytes.items ≡ bytes_at stamp (D.history disk.old).now) }
     ensures unchanged { D.history disk.new ≡ D.history disk.old }
     ensures cause { RotateHasCause (D.failed disk.old) (D.failed disk.new) result }
 {

@@ -46,10 +46,11 @@ pub fn recover<M: Machine, D: SessionDisk>(
 ) -> Result<Recovered<M>, RotateFault>
     ensures in_range { IfOk result (λ r. IfSome r.greatest (λ stamp. stamp < 2 ^ 63)) }
     ensures chosen_in_range { IfOk result (λ r. IfSome r.chosen (λ chosen. chosen.stamp < 2 ^ 63)) }
-    ensures state { D.tells → IfOk result (λ r. Recovers M.kind (as_it_reads (D.history disk.old).now) r.state) }
-    ensures chosen { D.tells → IfOk result (λ r. IsChoice (as_it_reads (D.history disk.old).now) r.chosen) }
-    ensures greatest { D.tells → IfOk result (λ r. IsNewestBelow (D.history disk.old).now.standing None r.greatest) }
-    ensures frames { D.tells → IfOk result (λ r. CountsFrames (as_it_reads (D.history disk.old).now) r.commands r.ending) }
+    ensures state { D.modelled → IfOk result (λ r. Recovers M.kind (as_it_reads (D.history disk.old).now) r.state) }
+    ensures chosen { D.modelled → IfOk result (λ r. IsChoice (as_it_reads (D.history disk.old).now) r.chosen) }
+    ensures greatest { D.modelled → IfOk result (λ r. IsNewestBelow (D.history disk.old).now.standing None r.greatest) }
+    ensures frames { D.modelled →
+        IfOk result (λ r. CountsFrames (as_it_reads (D.history disk.old).now) r.commands r.ending) }
     ensures unchanged { D.history disk.new ≡ D.history disk.old }
     ensures cause { RotateHasCause (D.failed disk.old) (D.failed disk.new) result }
 {

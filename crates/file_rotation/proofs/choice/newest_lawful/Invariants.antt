@@ -7,7 +7,7 @@ invariant-loop-next g l = record {
   unchanged : g.D.SessionDisk.history l.disk ≡ g.D.SessionDisk.history l.fn.disk;
   later : g.D.SessionDisk.failed l.fn.disk ≤ g.D.SessionDisk.failed l.disk;
   in_range : IfSome l.next (λ stamp. stamp < 2 ^ 63);
-  searched : g.D.SessionDisk.tells → Searched (g.D.SessionDisk.history l.fn.disk).now l.next;
+  searched : g.D.SessionDisk.modelled → Searched (g.D.SessionDisk.history l.fn.disk).now l.next;
 }
 
 abbrev pub decreases-loop-next : goal.decreases-loop-next

@@ -6,7 +6,7 @@ abbrev pub invariant-loop-older : goal.invariant-loop-older
 invariant-loop-older g l = record {
   later : g.D.SessionDisk.failed l.fn.disk ≤ g.D.SessionDisk.failed l.disk;
   within : l.bound ≤ l.stamp;
-  cleared : g.D.SessionDisk.tells → ClearedFrom l.stamp l.bound (g.D.SessionDisk.history l.fn.disk) (g.D.SessionDisk.history l.disk);
+  cleared : g.D.SessionDisk.modelled → ClearedFrom l.stamp l.bound (g.D.SessionDisk.history l.fn.disk) (g.D.SessionDisk.history l.disk);
 }
 
 abbrev pub decreases-loop-older : goal.decreases-loop-older

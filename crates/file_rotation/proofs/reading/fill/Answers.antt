@@ -7,5 +7,5 @@ loop-filled-preserved g c = record {
   unchanged = search rules;
   later = search rules;
   room = search rules;
-  filled = λ tells. filled_more _ _ _ _ _ _ c.loop-filled.invariant.room (omega (arith, c.in_ok-count.ensures.bound, c.read_at.auto.into)) (c.loop-filled.invariant.filled tells) (search rules);
+  filled = λ modelled. filled_more _ _ _ _ _ _ c.loop-filled.invariant.room (omega (arith, c.in_ok-count.ensures.bound, c.read_at.auto.into)) (c.loop-filled.invariant.filled modelled) (search rules);
 }

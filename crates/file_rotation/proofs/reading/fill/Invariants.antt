@@ -8,7 +8,7 @@ invariant-loop-filled g l = record {
   unchanged : g.D.SessionDisk.history l.disk ≡ g.D.SessionDisk.history l.fn.disk;
   later : g.D.SessionDisk.failed l.fn.disk ≤ g.D.SessionDisk.failed l.disk;
   room : l.filled ≤ length l.into;
-  filled : g.D.SessionDisk.tells → IsFilledTo (bytes_at l.stamp (g.D.SessionDisk.history l.fn.disk).now) l.filled l.into;
+  filled : g.D.SessionDisk.modelled → IsFilledTo (bytes_at l.stamp (g.D.SessionDisk.history l.fn.disk).now) l.filled l.into;
 }
 
 abbrev pub decreases-loop-filled : goal.decreases-loop-filled
