@@ -1,0 +1,10 @@
+pub mod FreshBytes
+pub mod MayLeave
+pub mod LayLaws
+pub mod FileLaws
+pub mod ImageLaws
+pub mod RotateLaws
+pub mod GoodLaws
+pub mod CommandLaws
+pub mod StandingLaws
+pub mod CutLaws

@@ -1,0 +1,9 @@
+pub mod Fresh
+pub mod Lay
+pub mod Rotation
+pub mod Faults
+pub use Rattle.machine_law.specs.Kind
+pub use Rattle.session_disk.specs.Causes
+pub use Rattle.session_disk.specs.Moments
+pub use Rattle.session_disk.specs.Images
+pub use Rattle.session_disk.specs.Histories
