@@ -1,21 +1,18 @@
-//! A journal is opened: the files are read, and a fresh one takes their place. Stands on machine_law, session_disk and
-//! file_rotation.
-ghost use Rattle.std.specs.Prelude.{◌≡◌, ◌<◌, ◌≤◌, ◌-◌, ◌^◌, true, zero, [], length, None, IsSome, IfOk, IfErr, MatchResult};
+//! A journal is opened: the files are read, and a fresh one of their state takes the place of the lawful ones, beside
+//! the foreign ones.
+ghost use Rattle.std.specs.Prelude.{◌≡◌, ◌<◌, ◌≤◌, ◌^◌, [], length, None, IsSome, IfOk};
 ghost use Rattle.session_disk.specs.Histories.{Leaves};
-ghost use Rattle.session_disk.specs.Moments.{IsAtRest};
-ghost use Rattle.file_rotation.specs.Recovery.{IsGood};
-ghost use Rattle.log_writer.specs.Fresh.{fresh};
-ghost use Rattle.log_writer.specs.Account.{restated, opened};
-ghost use Rattle.log_writer.specs.Journals.{IsReady, Advances};
-ghost use Rattle.log_writer.specs.Lay.{IsAbove};
-ghost use Rattle.log_writer.specs.Faults.{answer, IsLongerThan, RefusesFailed, RefusesOpening, RefusesStamp, RefusesLast, LeavesDisk, JournalHasCause};
+ghost use Rattle.fresh_files.specs.Fresh.{fresh};
+ghost use Rattle.fresh_files.specs.Rotation.{IsMomentOf};
+ghost use Rattle.log_writer.specs.Journals.{IsReady};
+ghost use Rattle.log_writer.specs.Log.{IsLeft};
+ghost use Rattle.log_writer.specs.Opening.{OpenAnswers, OpenMakes, RefusesOpening, Starts, AnswersOpening, MakesOpening, WhereReady, FitsOpening, StartsAt, LeavesStart, left_disk};
 
 use crate::fault::JournalFault;
-use crate::fresh::fresh_file;
 use crate::journal::{Journal, Present};
 use crate::limits::Limits;
-use crate::rotation::rotate;
 use file_rotation::{Recovered, recover};
+use fresh_files::{fresh_file, rotate};
 use machine_law::Machine;
 use session_disk::{Clock, SessionDisk};
 use std::alloc::Global;
@@ -29,27 +26,13 @@ impl<M: Machine, D: SessionDisk> Journal<M, D> {
         clock: &mut C,
         limits: Limits,
     ) -> Result<Journal<M, D>, (D, JournalFault)>
-        // On every disk.
-        ensures none_written { IfOk result (λ j. (j.present.count ≡ 0) × (j.present.told ≡ 0) × (j.present.after ≡ 0)) }
-        ensures works { IfOk result (λ j. j.failed ≡ None) }
-        ensures limits { IfOk result (λ j. j.limits ≡ limits) }
-        ensures already { IfErr result (λ e. RefusesFailed None (answer e.1)) }
-        ensures stamp { IfErr result (λ e. RefusesStamp true (answer e.1)) }
-        ensures unmade { IfErr result (λ e. LeavesDisk (answer e.1) → D.history e.0 ≡ D.history disk) }
-        ensures cause { IfErr result (λ e. JournalHasCause (D.failed disk) (D.failed e.0) (answer e.1)) }
-        ensures later { IfOk result (λ j. D.failed disk ≤ D.failed j.disk) }
-        ensures long { IfErr result (λ e. IsLongerThan limits.max_file e.1) }
-
-        // On a disk that tells and is at rest, with nothing told, for the state to which its files read.
-        ensures last { D.tells → MatchResult result (λ _. IsAbove (2 ^ 63 - 1) (D.history disk).now) (λ e. RefusesLast (D.history disk).now (answer e.1)) }
-        ensures length { D.tells → (s : M.State) → IsReady M.kind (D.history disk).now s →
-            IfErr result (λ e. RefusesOpening limits.max_file (length (fresh M.kind s)) (answer e.1)) }
-        ensures ok { D.tells → (s : M.State) → IsReady M.kind (D.history disk).now s → IfOk result (λ j.
-            Advances M.kind (D.history disk).now (D.history j.disk).now j.present j.pending.items (restated M.kind s zero) (opened M.kind limits.max_file s) s []) }
-        ensures at_rest { D.tells → (s : M.State) → IsReady M.kind (D.history disk).now s → IfOk result (λ j. IsAtRest (D.history j.disk).now) }
-        ensures crash { D.tells → (s : M.State) → IsReady M.kind (D.history disk).now s → MatchResult result
-            (λ j. Leaves (D.history disk) (D.history j.disk) (IsGood M.kind s []))
-            (λ e. Leaves (D.history disk) (D.history e.0) (IsGood M.kind s [])) }
+        ensures answers { AnswersOpening disk limits result }
+        ensures works { IfOk result (λ j. (j.failed ≡ None) × (j.limits ≡ limits)) }
+        ensures later { D.failed disk ≤ D.failed (left_disk result) }
+        ensures makes { MakesOpening disk (IsMomentOf C.modelled (C.moment clock.old)) result }
+        ensures length { WhereReady disk result (FitsOpening limits result) }
+        ensures ok { WhereReady disk result (StartsAt disk limits result) }
+        ensures crash { WhereReady disk result (LeavesStart disk result) }
     {
         let mut disk = disk;
         match begin::<M, D, C>(alloc, &mut disk, clock, &limits) {
@@ -73,21 +56,20 @@ fn begin<M: Machine, D: SessionDisk, C: Clock>(
     clock: &mut C,
     limits: &Limits,
 ) -> Result<Present<M::State>, JournalFault>
-    ensures none_written { IfOk result (λ p. (p.count ≡ 0) × (p.told ≡ 0) × (p.after ≡ 0)) }
-    ensures short { IfOk result (λ p. p.length ≤ limits.now.max_file) }
-    ensures in_range { IfOk result (λ p. p.stamp < 2 ^ 63) }
-    ensures stands { D.tells → IfOk result (λ p. IsSome ((D.history disk.new).now.standing p.stamp)) }
-    ensures already { RefusesFailed None result }
-    ensures unmade { LeavesDisk result → D.history disk.new ≡ D.history disk.old }
-    ensures stamp { RefusesStamp true result }
-    ensures cause { JournalHasCause (D.failed disk.old) (D.failed disk.new) result }
-    ensures long { IfErr result (IsLongerThan limits.now.max_file) }
-    ensures last { D.tells → RefusesLast (D.history disk.old).now result }
-    ensures length { D.tells → (s : M.State) → IsReady M.kind (D.history disk.old).now s → RefusesOpening limits.now.max_file (length (fresh M.kind s)) result }
-    ensures ok { D.tells → (s : M.State) → IsReady M.kind (D.history disk.old).now s → IfOk result (λ p.
-        Advances M.kind (D.history disk.old).now (D.history disk.new).now p [] (restated M.kind s zero) (opened M.kind limits.now.max_file s) s []) }
-    ensures at_rest { D.tells → (s : M.State) → IsReady M.kind (D.history disk.old).now s → IfOk result (λ _. IsAtRest (D.history disk.new).now) }
-    ensures crash { D.tells → (s : M.State) → IsReady M.kind (D.history disk.old).now s → Leaves (D.history disk.old) (D.history disk.new) (IsGood M.kind s []) }
+    ensures answers { OpenAnswers limits.now
+        (record { history = D.history disk.old; failures = D.failed disk.old })
+        (record { history = D.history disk.new; failures = D.failed disk.new }) result }
+    ensures later { D.failed disk.old ≤ D.failed disk.new }
+    ensures bounds { IfOk result (λ p. (p.length ≤ limits.now.max_file) × (p.stamp < 2 ^ 63)) }
+    ensures stands { D.modelled → IfOk result (λ p. IsSome ((D.history disk.new).now.standing p.stamp)) }
+    ensures makes { D.modelled →
+        OpenMakes (IsMomentOf C.modelled (C.moment clock.old)) (D.history disk.old).now result }
+    ensures length { D.modelled → (s : M.State) → IsReady M.kind (D.history disk.old).now s →
+        RefusesOpening limits.now.max_file (length (fresh M.kind s)) result }
+    ensures ok { D.modelled → (s : M.State) → IsReady M.kind (D.history disk.old).now s →
+        IfOk result (λ p. Starts M.kind limits.now (D.history disk.old).now (D.history disk.new).now p [] s) }
+    ensures crash { D.modelled → (s : M.State) → IsReady M.kind (D.history disk.old).now s →
+        Leaves (D.history disk.old) (D.history disk.new) (IsLeft M.kind (D.history disk.old).now s []) }
 {
     let Recovered {
         state,

@@ -1,13 +1,14 @@
-//! What waits comes into the file, and what is in the file is made safe and told. Stands on session_disk.
-ghost use Rattle.std.specs.Prelude.{◌≡◌, ◌<◌, ◌^◌, [], IsSome, OnOk, OnErr, IsErrOf, None, List, false};
+//! What waits comes into the file, and what is in the file is made safe and told. Nothing else of the crate tells a
+//! disk what is acknowledged.
+ghost use Rattle.std.specs.Prelude.{◌≡◌, ◌<◌, ◌^◌, [], IsSome, OnOk, OnErr, IsErrOf};
 ghost use Rattle.session_disk.specs.Causes.{DiskHasCause};
-ghost use Rattle.session_disk.specs.Moments.{IsAtRest, after_append, after_tell};
+ghost use Rattle.session_disk.specs.Moments.{after_append, after_tell};
 ghost use Rattle.session_disk.specs.Histories.{Leaves};
 ghost use Rattle.session_disk.specs.declared.failure.DiskError.TheVariants.{Memory};
-ghost use Rattle.file_rotation.specs.Recovery.{IsGood};
-ghost use Rattle.log_writer.specs.Account.{Account, Becomes, synced};
-ghost use Rattle.log_writer.specs.Journals.{LeavesAppended, LeavesTold, IsSafeOrNot, made_safe, Runs, Advances, Remains};
-ghost use Rattle.log_writer.specs.Faults.{RefusesFailed, RefusesNoRotation, KeepsFirst, CallsNothing, JournalHasCause, first_of};
+ghost use Rattle.log_writer.specs.Journals.{LeavesAppended, LeavesTold, IsSafeOrNot, made_safe};
+ghost use Rattle.log_writer.specs.Log.{WhereRuns, LeavesGood, HasForeign, GoesOn, RestsAfter};
+ghost use Rattle.log_writer.specs.Answers.{Answers, Lasts, TellsAll, sync_call, syncs};
+ghost use Rattle.log_writer.specs.Faults.{first_of};
 
 use crate::fault::{First, JournalFault};
 use crate::journal::Journal;
@@ -18,28 +19,13 @@ impl<M: Machine, D: SessionDisk> Journal<M, D> {
     /// Writes what waits, makes the file safe, and tells the disk how many commands it holds. After want of memory
     /// nothing was told, and what waited may be in the file.
     pub fn sync(&mut self) -> Result<(), JournalFault>
-        // On every disk.
-        ensures already { RefusesFailed self.old.failed result }
-        ensures nothing { CallsNothing result → self.new ≡ self.old }
-        ensures rotation { RefusesNoRotation result }
-        ensures cause { JournalHasCause (D.failed self.old.disk) (D.failed self.new.disk) result }
-        ensures keeps_first { KeepsFirst false (D.failed self.new.disk) self.new.failed result }
-        ensures told { OnOk result (self.new.present ≡ record self.old.present { told = self.old.present.count }) }
-        ensures untold { OnErr result (self.new.present ≡ self.old.present) }
-
-        // On a disk that tells, for the commands that the journal stands for.
-        ensures ok { D.tells → self.old.failed ≡ None → (first : M.State) (q : List M.Command) (a : Account M.State M.Command) →
-            Runs M.kind (D.history self.old.disk).now self.old.present self.old.pending.items a first q →
-            OnOk result (Advances M.kind (D.history self.old.disk).now (D.history self.new.disk).now self.new.present self.new.pending.items a (Becomes (synced M.kind a)) first q) }
-        ensures at_rest { D.tells → self.old.failed ≡ None → (first : M.State) (q : List M.Command) (a : Account M.State M.Command) →
-            Runs M.kind (D.history self.old.disk).now self.old.present self.old.pending.items a first q →
-            OnOk result (IsAtRest (D.history self.new.disk).now) }
-        ensures refused { D.tells → self.old.failed ≡ None → (first : M.State) (q : List M.Command) (a : Account M.State M.Command) →
-            Runs M.kind (D.history self.old.disk).now self.old.present self.old.pending.items a first q →
-            OnErr result (Remains M.kind self.new.failed (D.history self.new.disk).now self.new.present self.new.pending.items first q) }
-        ensures crash { D.tells → self.old.failed ≡ None → (first : M.State) (q : List M.Command) (a : Account M.State M.Command) →
-            Runs M.kind (D.history self.old.disk).now self.old.present self.old.pending.items a first q →
-            Leaves (D.history self.old.disk) (D.history self.new.disk) (IsGood M.kind first q) }
+        ensures answers { Answers sync_call self.old self.new result }
+        ensures later { Lasts self.old self.new }
+        ensures told { TellsAll self.old self.new result }
+        ensures follows { WhereRuns self.old (GoesOn self.old self.new (syncs self.old) [] result) }
+        ensures at_rest { WhereRuns self.old (RestsAfter self.new result) }
+        ensures foreign { WhereRuns self.old (HasForeign self.old self.new) }
+        ensures crash { WhereRuns self.old (LeavesGood self.old self.new) }
     {
         if let Some(first) = self.failed {
             return Err(JournalFault::AlreadyFailed(first));
@@ -69,15 +55,16 @@ pub(crate) fn flush<D: SessionDisk>(
     pending: &mut Vec<u8>,
 ) -> Result<(), DiskError>
     requires in_range { stamp < 2 ^ 63 }
-    requires stands { D.tells → IsSome ((D.history disk.old).now.standing stamp) }
-    ensures ok { D.tells → OnOk result ((D.history disk.new).now ≡ after_append stamp pending.old.items (D.history disk.old).now) }
+    requires stands { D.modelled → IsSome ((D.history disk.old).now.standing stamp) }
+    ensures ok { D.modelled → OnOk result
+        ((D.history disk.new).now ≡ after_append stamp pending.old.items (D.history disk.old).now) }
     ensures empty { OnOk result (pending.new.items ≡ []) }
     ensures err { OnErr result (pending.new ≡ pending.old) }
-    ensures stands { D.tells → IsSome ((D.history disk.new).now.standing stamp) }
-    ensures memory { D.tells → IsErrOf result Memory → D.history disk.new ≡ D.history disk.old }
-    ensures told { D.tells → (D.history disk.new).now.told ≡ (D.history disk.old).now.told }
-    ensures creates { D.tells → (D.history disk.new).now.creates ≡ (D.history disk.old).now.creates }
-    ensures crash { D.tells → Leaves (D.history disk.old) (D.history disk.new) (LeavesAppended (D.history disk.old).now stamp pending.old.items) }
+    ensures stands { D.modelled → IsSome ((D.history disk.new).now.standing stamp) }
+    ensures memory { D.modelled → IsErrOf result Memory → D.history disk.new ≡ D.history disk.old }
+    ensures told { D.modelled → (D.history disk.new).now.told ≡ (D.history disk.old).now.told }
+    ensures crash { D.modelled → Leaves (D.history disk.old) (D.history disk.new)
+        (LeavesAppended (D.history disk.old).now stamp pending.old.items) }
     ensures cause { DiskHasCause (D.failed disk.old) (D.failed disk.new) result }
 {
     if pending.is_empty() {
@@ -96,14 +83,16 @@ fn make_safe<D: SessionDisk>(
     count: u64,
 ) -> Result<(), DiskError>
     requires in_range { stamp < 2 ^ 63 }
-    requires stands { D.tells → IsSome ((D.history disk.old).now.standing stamp) }
-    ensures ok { D.tells → OnOk result ((D.history disk.new).now ≡ after_tell count (made_safe stamp pending.old.items (D.history disk.old).now)) }
+    requires stands { D.modelled → IsSome ((D.history disk.old).now.standing stamp) }
+    ensures ok { D.modelled → OnOk result ((D.history disk.new).now ≡
+        after_tell count (made_safe stamp pending.old.items (D.history disk.old).now)) }
     ensures empty { OnOk result (pending.new.items ≡ []) }
-    ensures stands { D.tells → IsSome ((D.history disk.new).now.standing stamp) }
-    ensures memory { D.tells → IsErrOf result Memory →
+    ensures stands { D.modelled → IsSome ((D.history disk.new).now.standing stamp) }
+    ensures memory { D.modelled → IsErrOf result Memory →
         IsSafeOrNot stamp (D.history disk.old).now pending.old.items (D.history disk.new).now pending.new.items }
-    ensures untold { D.tells → OnErr result ((D.history disk.new).now.told ≡ (D.history disk.old).now.told) }
-    ensures crash { D.tells → Leaves (D.history disk.old) (D.history disk.new) (LeavesTold (D.history disk.old).now stamp pending.old.items count) }
+    ensures untold { D.modelled → OnErr result ((D.history disk.new).now.told ≡ (D.history disk.old).now.told) }
+    ensures crash { D.modelled → Leaves (D.history disk.old) (D.history disk.new)
+        (LeavesTold (D.history disk.old).now stamp pending.old.items count) }
     ensures cause { DiskHasCause (D.failed disk.old) (D.failed disk.new) result }
 {
     flush(disk, stamp, pending)?;

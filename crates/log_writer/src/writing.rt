@@ -1,21 +1,20 @@
-//! Commands are taken, one at a time, and a fresh file takes the place of one that is full. Stands on machine_law,
-//! session_disk and file_rotation.
-ghost use Rattle.std.specs.Prelude.{◌≡◌, ◌+◌, ◌<◌, ◌≤◌, ◌^◌, true, false, suc, [], ◌∷◌, ◌++◌, length, List, None, OnOk, OnErr, IfErr};
+//! Commands are taken, one at a time: each waits in memory until the next one comes or a sync, and a fresh file takes
+//! the place of one that is full.
+ghost use Rattle.std.specs.Prelude.{◌≡◌, ◌+◌, ◌<◌, ◌≤◌, ◌^◌, [], ◌∷◌, length, None, OnOk, OnErr, IfErr};
 ghost use Rattle.std.specs.List.{AllByRecursion};
-ghost use Rattle.session_disk.specs.Histories.{Leaves};
-ghost use Rattle.file_rotation.specs.Recovery.{IsGood};
 ghost use Rattle.snss_frames.specs.Frame.{frame_bytes};
-ghost use Rattle.log_writer.specs.Fresh.{frame_of, fresh, frame_length, IsWritten};
-ghost use Rattle.log_writer.specs.Account.{Account, Becomes, state_of, restated, compacted, extended, rotated, written};
-ghost use Rattle.log_writer.specs.Journals.{Runs, Follows};
-ghost use Rattle.log_writer.specs.Faults.{plain, is_due, needed, Stepped, Unstepped, Takes, Restated, RefusesFailed, RefusesLength, RefusesStamp, RefusesLast, KeepsFirst, CallsNothing, LeavesDisk, JournalHasCause};
+ghost use Rattle.fresh_files.specs.Fresh.{frame_of, fresh, frame_length, IsWritten};
+ghost use Rattle.fresh_files.specs.Rotation.{IsMomentOf};
+ghost use Rattle.log_writer.specs.Faults.{plain};
+ghost use Rattle.log_writer.specs.Steps.{is_due, Takes};
+ghost use Rattle.log_writer.specs.Log.{WhereRuns, LeavesGood, HasForeign, GoesOn};
+ghost use Rattle.log_writer.specs.Answers.{Answers, Makes, Lasts, StepsBy, RestatesIn, write_call, compact_call, extend_call, restate_call, writes, extends, rotates, compacts, restates};
 
 use crate::fault::{First, JournalFault, Refused};
-use crate::fresh::{frame, fresh_file};
 use crate::journal::{Journal, Present};
 use crate::limits::Limits;
-use crate::rotation::{RotationFault, rotate};
 use crate::syncing::{first_of, flush};
+use fresh_files::{RotationFault, frame, fresh_file, rotate};
 use machine_law::Machine;
 use session_disk::{Clock, SessionDisk};
 use std::alloc::AllocError;
@@ -29,31 +28,16 @@ impl<M: Machine, D: SessionDisk> Journal<M, D> {
         command: M::Command,
     ) -> Result<(), Refused<M::Command>>
         requires { M.is_command command }
-
-        // On every disk.
-        ensures already { RefusesFailed self.old.failed (plain result) }
-        ensures nothing { CallsNothing (plain result) → (self.new.disk ≡ self.old.disk) × (self.new.failed ≡ self.old.failed) ×
-            (self.new.pending ≡ self.old.pending) × (self.new.present ≡ self.old.present) }
-        ensures length { RefusesLength self.old.limits.max_file (needed M.kind self.old.limits self.old.present command) (plain result) }
-        ensures stamp { RefusesStamp (is_due self.old.limits self.old.present (frame_length M.kind command)) (plain result) }
-        ensures limits { self.new.limits ≡ self.old.limits }
-        ensures unmade { LeavesDisk (plain result) → D.history self.new.disk ≡ D.history self.old.disk }
-        ensures cause { JournalHasCause (D.failed self.old.disk) (D.failed self.new.disk) (plain result) }
-        ensures keeps_first { KeepsFirst (is_due self.old.limits self.old.present (frame_length M.kind command)) (D.failed self.new.disk) self.new.failed (plain result) }
-        ensures stepped { OnOk result (Stepped M.kind self.old.present self.new.present command) }
-        ensures unstepped { OnErr result (Unstepped self.old.present self.new.present) }
+        ensures answers { Answers (write_call self.old command) self.old self.new (plain result) }
+        ensures later { Lasts self.old self.new }
+        ensures stepped { StepsBy command self.old self.new (plain result) }
         ensures back { IfErr result (λ refused. refused.command ≡ command) }
-
-        // On a disk that tells, for the commands that the journal stands for.
-        ensures last { D.tells → is_due self.old.limits self.old.present (frame_length M.kind command) ≡ true →
-            RefusesLast (D.history self.old.disk).now (plain result) }
-        ensures follows { D.tells → self.old.failed ≡ None → (first : M.State) (q : List M.Command) (a : Account M.State M.Command) →
-            Runs M.kind (D.history self.old.disk).now self.old.present self.old.pending.items a first q →
-            Follows M.kind (D.history self.old.disk).now self.new.failed (D.history self.new.disk).now self.new.present self.new.pending.items
-            a (written M.kind self.old.limits.every self.old.limits.max_file a command) first q (command ∷ []) (plain result) }
-        ensures crash { D.tells → self.old.failed ≡ None → (first : M.State) (q : List M.Command) (a : Account M.State M.Command) →
-            Runs M.kind (D.history self.old.disk).now self.old.present self.old.pending.items a first q →
-            Leaves (D.history self.old.disk) (D.history self.new.disk) (IsGood M.kind first (q ++ command ∷ [])) }
+        ensures makes { Makes (write_call self.old command)
+            (IsMomentOf C.modelled (C.moment clock.old)) self.old self.new (plain result) }
+        ensures follows { WhereRuns self.old
+            (GoesOn self.old self.new (writes self.old command) (command ∷ []) (plain result)) }
+        ensures foreign { WhereRuns self.old (HasForeign self.old self.new) }
+        ensures crash { WhereRuns self.old (LeavesGood self.old self.new) }
     {
         match self.put(clock, &command) {
             Ok(()) => Ok(()),
@@ -63,25 +47,14 @@ impl<M: Machine, D: SessionDisk> Journal<M, D> {
 
     /// Puts a fresh file of the present state in the place of the journal's, which takes time and memory in the state.
     pub fn compact<C: Clock>(&mut self, clock: &mut C) -> Result<(), JournalFault>
-        // On every disk.
-        ensures already { RefusesFailed self.old.failed result }
-        ensures nothing { CallsNothing result → self.new ≡ self.old }
-        ensures length { RefusesLength self.old.limits.max_file (length (fresh M.kind self.old.present.state)) result }
-        ensures stamp { RefusesStamp true result }
-        ensures cause { JournalHasCause (D.failed self.old.disk) (D.failed self.new.disk) result }
-        ensures keeps_first { KeepsFirst true (D.failed self.new.disk) self.new.failed result }
-        ensures restated { OnOk result (Restated self.old.present self.new.present (length (fresh M.kind self.old.present.state))) }
-        ensures unstepped { OnErr result (self.new.present ≡ self.old.present) }
-
-        // On a disk that tells, for the commands that the journal stands for.
-        ensures last { D.tells → RefusesLast (D.history self.old.disk).now result }
-        ensures follows { D.tells → self.old.failed ≡ None → (first : M.State) (q : List M.Command) (a : Account M.State M.Command) →
-            Runs M.kind (D.history self.old.disk).now self.old.present self.old.pending.items a first q →
-            Follows M.kind (D.history self.old.disk).now self.new.failed (D.history self.new.disk).now self.new.present self.new.pending.items
-            a (compacted M.kind self.old.limits.max_file a) first q [] result }
-        ensures crash { D.tells → self.old.failed ≡ None → (first : M.State) (q : List M.Command) (a : Account M.State M.Command) →
-            Runs M.kind (D.history self.old.disk).now self.old.present self.old.pending.items a first q →
-            Leaves (D.history self.old.disk) (D.history self.new.disk) (IsGood M.kind first q) }
+        ensures answers { Answers (compact_call self.old) self.old self.new result }
+        ensures later { Lasts self.old self.new }
+        ensures restated { RestatesIn (length (fresh M.kind self.old.present.state)) self.old self.new result }
+        ensures makes { Makes (compact_call self.old)
+            (IsMomentOf C.modelled (C.moment clock.old)) self.old self.new result }
+        ensures follows { WhereRuns self.old (GoesOn self.old self.new (compacts self.old) [] result) }
+        ensures foreign { WhereRuns self.old (HasForeign self.old self.new) }
+        ensures crash { WhereRuns self.old (LeavesGood self.old self.new) }
     {
         if let Some(first) = self.failed {
             return Err(JournalFault::AlreadyFailed(first));
@@ -94,29 +67,17 @@ impl<M: Machine, D: SessionDisk> Journal<M, D> {
         self.replace(clock, &bytes)
     }
 
-    // The same as `write`, of a command that stays with the caller.
+    // Takes one command, which stays with the caller.
     fn put<C: Clock>(&mut self, clock: &mut C, command: &M::Command) -> Result<(), JournalFault>
         requires { M.is_command command.now }
-        ensures already { RefusesFailed self.old.failed result }
-        ensures nothing { CallsNothing result → (self.new.disk ≡ self.old.disk) × (self.new.failed ≡ self.old.failed) ×
-            (self.new.pending ≡ self.old.pending) × (self.new.present ≡ self.old.present) }
-        ensures length { RefusesLength self.old.limits.max_file (needed M.kind self.old.limits self.old.present command.now) result }
-        ensures stamp { RefusesStamp (is_due self.old.limits self.old.present (frame_length M.kind command.now)) result }
-        ensures limits { self.new.limits ≡ self.old.limits }
-        ensures unmade { LeavesDisk result → D.history self.new.disk ≡ D.history self.old.disk }
-        ensures cause { JournalHasCause (D.failed self.old.disk) (D.failed self.new.disk) result }
-        ensures keeps_first { KeepsFirst (is_due self.old.limits self.old.present (frame_length M.kind command.now)) (D.failed self.new.disk) self.new.failed result }
-        ensures stepped { OnOk result (Stepped M.kind self.old.present self.new.present command.now) }
-        ensures unstepped { OnErr result (Unstepped self.old.present self.new.present) }
-        ensures last { D.tells → is_due self.old.limits self.old.present (frame_length M.kind command.now) ≡ true →
-            RefusesLast (D.history self.old.disk).now result }
-        ensures follows { D.tells → self.old.failed ≡ None → (first : M.State) (q : List M.Command) (a : Account M.State M.Command) →
-            Runs M.kind (D.history self.old.disk).now self.old.present self.old.pending.items a first q →
-            Follows M.kind (D.history self.old.disk).now self.new.failed (D.history self.new.disk).now self.new.present self.new.pending.items
-            a (written M.kind self.old.limits.every self.old.limits.max_file a command.now) first q (command.now ∷ []) result }
-        ensures crash { D.tells → self.old.failed ≡ None → (first : M.State) (q : List M.Command) (a : Account M.State M.Command) →
-            Runs M.kind (D.history self.old.disk).now self.old.present self.old.pending.items a first q →
-            Leaves (D.history self.old.disk) (D.history self.new.disk) (IsGood M.kind first (q ++ command.now ∷ [])) }
+        ensures answers { Answers (write_call self.old command.now) self.old self.new result }
+        ensures later { Lasts self.old self.new }
+        ensures stepped { StepsBy command.now self.old self.new result }
+        ensures makes { Makes (write_call self.old command.now)
+            (IsMomentOf C.modelled (C.moment clock.old)) self.old self.new result }
+        ensures follows { WhereRuns self.old
+            (GoesOn self.old self.new (writes self.old command.now) (command.now ∷ []) result) }
+        ensures crash { WhereRuns self.old (LeavesGood self.old self.new) }
     {
         if let Some(first) = self.failed {
             return Err(JournalFault::AlreadyFailed(first));
@@ -136,24 +97,13 @@ impl<M: Machine, D: SessionDisk> Journal<M, D> {
         requires written { IsWritten M.kind command.now }
         requires frame { frame.items ≡ frame_bytes (frame_of M.kind command.now) }
         requires few { self.old.present.after + 1 ≤ self.old.limits.every }
-        ensures nothing { CallsNothing result → (self.new.disk ≡ self.old.disk) × (self.new.failed ≡ self.old.failed) ×
-            (self.new.pending ≡ self.old.pending) × (self.new.present ≡ self.old.present) }
-        ensures length { RefusesLength self.old.limits.max_file (self.old.present.length + frame_length M.kind command.now) result }
-        ensures already { RefusesFailed None result }
-        ensures stamp { RefusesStamp false result }
-        ensures limits { self.new.limits ≡ self.old.limits }
-        ensures unmade { LeavesDisk result → D.history self.new.disk ≡ D.history self.old.disk }
-        ensures cause { JournalHasCause (D.failed self.old.disk) (D.failed self.new.disk) result }
-        ensures keeps_first { KeepsFirst false (D.failed self.new.disk) self.new.failed result }
-        ensures stepped { OnOk result (Stepped M.kind self.old.present self.new.present command.now) }
-        ensures unstepped { OnErr result (Unstepped self.old.present self.new.present) }
-        ensures follows { D.tells → (first : M.State) (q : List M.Command) (a : Account M.State M.Command) →
-            Runs M.kind (D.history self.old.disk).now self.old.present self.old.pending.items a first q →
-            Follows M.kind (D.history self.old.disk).now self.new.failed (D.history self.new.disk).now self.new.present self.new.pending.items
-            a (extended M.kind self.old.limits.max_file a command.now) first q (command.now ∷ []) result }
-        ensures crash { D.tells → (first : M.State) (q : List M.Command) (a : Account M.State M.Command) →
-            Runs M.kind (D.history self.old.disk).now self.old.present self.old.pending.items a first q →
-            Leaves (D.history self.old.disk) (D.history self.new.disk) (IsGood M.kind first q) }
+        ensures answers { Answers (extend_call self.old command.now) self.old self.new result }
+        ensures later { Lasts self.old self.new }
+        ensures stepped { StepsBy command.now self.old self.new result }
+        ensures makes { Makes (extend_call self.old command.now) (λ _. Unit {0}) self.old self.new result }
+        ensures follows { WhereRuns self.old
+            (GoesOn self.old self.new (extends self.old command.now) (command.now ∷ []) result) }
+        ensures crash { WhereRuns self.old (LeavesGood self.old self.new) }
     {
         let size = frame.len() as u64;
         let needed = self.present.length + size;
@@ -180,25 +130,14 @@ impl<M: Machine, D: SessionDisk> Journal<M, D> {
         requires command { M.is_command command.now }
         requires written { IsWritten M.kind command.now }
         requires frame { frame.items ≡ frame_bytes (frame_of M.kind command.now) }
-        ensures nothing { CallsNothing result → (self.new.disk ≡ self.old.disk) × (self.new.failed ≡ self.old.failed) ×
-            (self.new.pending ≡ self.old.pending) × (self.new.present ≡ self.old.present) }
-        ensures length { RefusesLength self.old.limits.max_file (length (fresh M.kind self.old.present.state) + frame_length M.kind command.now) result }
-        ensures already { RefusesFailed None result }
-        ensures stamp { RefusesStamp true result }
-        ensures limits { self.new.limits ≡ self.old.limits }
-        ensures unmade { LeavesDisk result → D.history self.new.disk ≡ D.history self.old.disk }
-        ensures cause { JournalHasCause (D.failed self.old.disk) (D.failed self.new.disk) result }
-        ensures keeps_first { KeepsFirst true (D.failed self.new.disk) self.new.failed result }
-        ensures stepped { OnOk result (Stepped M.kind self.old.present self.new.present command.now) }
-        ensures unstepped { OnErr result (Unstepped self.old.present self.new.present) }
-        ensures last { D.tells → RefusesLast (D.history self.old.disk).now result }
-        ensures follows { D.tells → (first : M.State) (q : List M.Command) (a : Account M.State M.Command) →
-            Runs M.kind (D.history self.old.disk).now self.old.present self.old.pending.items a first q →
-            Follows M.kind (D.history self.old.disk).now self.new.failed (D.history self.new.disk).now self.new.present self.new.pending.items
-            a (rotated M.kind self.old.limits.max_file a command.now) first q (command.now ∷ []) result }
-        ensures crash { D.tells → (first : M.State) (q : List M.Command) (a : Account M.State M.Command) →
-            Runs M.kind (D.history self.old.disk).now self.old.present self.old.pending.items a first q →
-            Leaves (D.history self.old.disk) (D.history self.new.disk) (IsGood M.kind first q) }
+        ensures answers { Answers (restate_call self.old command.now) self.old self.new result }
+        ensures later { Lasts self.old self.new }
+        ensures stepped { StepsBy command.now self.old self.new result }
+        ensures makes { Makes (restate_call self.old command.now)
+            (IsMomentOf C.modelled (C.moment clock.old)) self.old self.new result }
+        ensures follows { WhereRuns self.old
+            (GoesOn self.old self.new (rotates self.old command.now) (command.now ∷ []) result) }
+        ensures crash { WhereRuns self.old (LeavesGood self.old self.new) }
     {
         let bytes = fresh_file::<M>(self.alloc, &self.present.state)?;
         let size = frame.len() as u64;
@@ -218,24 +157,14 @@ impl<M: Machine, D: SessionDisk> Journal<M, D> {
         requires short { length bytes.now ≤ self.old.limits.max_file }
         requires bytes { bytes.now ≡ fresh M.kind self.old.present.state }
         requires written { AllByRecursion (IsWritten M.kind) (M.kind.compaction self.old.present.state) }
-        ensures already { RefusesFailed None result }
-        ensures long { CallsNothing result → ⊥ }
-        ensures limits { self.new.limits ≡ self.old.limits }
-        ensures stamp { RefusesStamp true result }
-        ensures unmade { LeavesDisk result → D.history self.new.disk ≡ D.history self.old.disk }
-        ensures cause { JournalHasCause (D.failed self.old.disk) (D.failed self.new.disk) result }
-        ensures keeps_first { KeepsFirst true (D.failed self.new.disk) self.new.failed result }
-        ensures restated { OnOk result (Restated self.old.present self.new.present (length bytes.now)) }
-        ensures unstepped { OnErr result (self.new.present ≡ self.old.present) }
-        ensures last { D.tells → RefusesLast (D.history self.old.disk).now result }
+        ensures answers { Answers (compact_call self.old) self.old self.new result }
+        ensures later { Lasts self.old self.new }
+        ensures restated { RestatesIn (length bytes.now) self.old self.new result }
+        ensures makes { Makes (compact_call self.old)
+            (IsMomentOf C.modelled (C.moment clock.old)) self.old self.new result }
         ensures empty { OnOk result (self.new.pending.items ≡ []) }
-        ensures follows { D.tells → (first : M.State) (q : List M.Command) (a : Account M.State M.Command) →
-            Runs M.kind (D.history self.old.disk).now self.old.present self.old.pending.items a first q →
-            Follows M.kind (D.history self.old.disk).now self.new.failed (D.history self.new.disk).now self.new.present self.new.pending.items
-            a (Becomes (restated M.kind (state_of M.kind a) (suc a.made))) first q [] result }
-        ensures crash { D.tells → (first : M.State) (q : List M.Command) (a : Account M.State M.Command) →
-            Runs M.kind (D.history self.old.disk).now self.old.present self.old.pending.items a first q →
-            Leaves (D.history self.old.disk) (D.history self.new.disk) (IsGood M.kind first q) }
+        ensures follows { WhereRuns self.old (GoesOn self.old self.new (restates self.old) [] result) }
+        ensures crash { WhereRuns self.old (LeavesGood self.old self.new) }
     {
         M::known_state(&self.present.state);
         match rotate(&mut self.disk, clock, bytes) {
