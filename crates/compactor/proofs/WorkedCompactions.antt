@@ -5,8 +5,8 @@ use Rattle.navigation_entry.specs.declared.group.GroupInfo.{GroupInfo}
 use Rattle.session_commands.specs.declared.command.SessionCommand.TheVariants.{TabWindow, TabIndex, UpdateNavigation, WindowClosed, SelectTab, WindowKind, SelectNavigation, Pinned, TabGroup, TabExtra, GroupData, ActiveWindow}
 use Rattle.window_state.specs.States.{start}
 use Rattle.machine_law.specs.Kind.{fold}
-use Rattle.compactor.specs.Compaction.{compaction, weight}
-use Rattle.compactor.specs.SessionKind.{session_kind}
+use Rattle.compactor.specs.session.Compaction.{compaction, weight}
+use Rattle.compactor.specs.session.SessionKind.{session_kind}
 
 placed : compaction (fold session_kind start (TabWindow (pos 1) (pos 2) ∷ [])) ≡ SelectTab (pos 1) (negsuc 0) ∷ TabIndex (pos 2) (negsuc 0) ∷ TabWindow (pos 1) (pos 2) ∷ []
 placed = refl

@@ -1,3 +1,1 @@
-pub mod Compaction
-pub mod SessionKind
-pub mod Laws
+pub mod session

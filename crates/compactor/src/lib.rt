@@ -1,12 +1,16 @@
-//! A session as a machine: its steps, and the commands that restate its state. Stands on replay_machine and
-//! machine_law.
+//! Families of session files as machines. A machine compacts its state: it gives the commands that make the very state
+//! of an empty one.
+//!
+//! ```
+//! let state = SessionMachine::start(alloc)?;
+//! let commands = SessionMachine::compact(alloc, &state)?;
+//! let mut restated = SessionMachine::start(alloc)?;
+//! for command in &commands {
+//!     SessionMachine::apply(&mut restated, command)?;
+//! }
+//! ```
 #![tactic(auto)]
 
-mod compaction;
-mod machine;
-mod pairs;
-mod tab;
-mod weight;
-mod window;
+mod session;
 
-pub use machine::SessionMachine;
+pub use session::SessionMachine;

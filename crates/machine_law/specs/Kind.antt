@@ -3,6 +3,14 @@
 use Rattle.std.specs.Prelude.{◌≡◌, ℕ, ◌≤◌, Bool, true, List, [], ◌∷◌, length}
 use Rattle.std.specs.List.{AllByRecursion}
 
+-- the most bytes of a payload
+abbrev pub payload_limit : ℕ
+payload_limit = 65534
+
+-- the id of the initial-state marker
+abbrev pub marker_id : ℕ
+marker_id = 255
+
 pub record Kind (S C : Type 0) : Type 1 where
   -- the state before any command
   pub start : S
@@ -27,9 +35,9 @@ module _ {S C : Type 0} (kind : Kind S C) where
   fold state [] = state
   fold state (command ∷ commands) = fold (kind.step state command) commands
 
-  -- the initial-state marker: the command with id 255 and no payload
+  -- the initial-state marker: the command with its id and no payload
   abbrev pub IsMarker : C → Type 0
-  IsMarker command = kind.Payload 255 command []
+  IsMarker command = kind.Payload marker_id command []
 
 -- What holds of every kind, over states and commands that are values of a machine.
 pub record IsLawful {S C : Type 0} (kind : Kind S C) (IsState : S → Type 0) (IsCommand : C → Type 0) : Type 0 where

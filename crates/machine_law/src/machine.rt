@@ -1,7 +1,7 @@
 //! A machine: a state, the commands that change it, and their payloads.
 ghost use Rattle.std.specs.Prelude.{◌≡◌, ◌<◌, ◌≤◌, ◌++◌, length, IfOk, OnOk, OnErr};
 ghost use Rattle.std.specs.List.{AllByRecursion};
-ghost use Rattle.machine_law.specs.Kind.{Kind, IsLawful};
+ghost use Rattle.machine_law.specs.Kind.{Kind, IsLawful, payload_limit};
 
 use std::alloc::{AllocError, Global};
 
@@ -18,7 +18,10 @@ pub trait Machine {
     /// What every state in hand meets.
     ghost is_state: { Self.State → Type 0 };
 
-    /// What a command meets whose payload can be written.
+    /// What is asked of a command in hand: its payload can be written.
+    ghost is_sound: { Self.Command → Type 0 };
+
+    /// What a sound command meets: its numbers are in the ranges of their types too.
     ghost is_command: { Self.Command → Type 0 };
 
     ghost lawful: { IsLawful kind is_state is_command };
@@ -45,7 +48,7 @@ pub trait Machine {
 
     /// The command of an id and a payload of at most 65,534 bytes.
     fn read(alloc: Global, id: u8, payload: &[u8]) -> Result<Self::Command, AllocError>
-        requires { length payload.now ≤ 65534 }
+        requires { length payload.now ≤ payload_limit }
         ensures found { IfOk result (λ command. kind.Payload id command payload.now) }
         ensures command { IfOk result (λ command. is_command command) };
 
@@ -56,7 +59,7 @@ pub trait Machine {
         ensures ok { OnOk result (out.new.items ≡ out.old.items ++ kind.payload command.now) }
         ensures id { IfOk result (λ id. id ≡ kind.id command.now) }
         ensures err { OnErr result (out.new.items ≡ out.old.items) }
-        ensures short { length (kind.payload command.now) ≤ 65534 }
+        ensures short { length (kind.payload command.now) ≤ payload_limit }
         ensures byte { kind.id command.now < 256 }
         ensures reads_back { kind.Payload (kind.id command.now) command.now (kind.payload command.now) };
 
@@ -72,4 +75,9 @@ pub trait Machine {
     /// An empty call by which generic code learns what the state meets.
     fn known_state(state: &Self::State)
         ensures { is_state state.now };
+
+    /// An empty call by which generic code learns what a sound command meets.
+    fn known_command(command: &Self::Command)
+        requires { is_sound command.now }
+        ensures { is_command command.now };
 }

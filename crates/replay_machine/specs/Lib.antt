@@ -1,4 +1,5 @@
 pub mod Step
+pub mod Parts
 pub use Rattle.window_state.specs.States
 pub use Rattle.window_state.specs.Changes
 pub use Rattle.window_state.specs.PageLists

@@ -5,8 +5,8 @@ use Rattle.std.specs.Prelude.{ℕ, Bool, List, [], ◌∷◌, Option, Some, None
 use Rattle.session_commands.specs.declared.command.SessionCommand.{SessionCommand}
 use Rattle.session_commands.specs.declared.command.SessionCommand.TheVariants.{UpdateNavigation, GroupData, Extension, WindowApp, SessionStorage, Workspace, TabGuid, UserAgent, UserTitle, TabExtra, WindowExtra, TabWindow, TabIndex, PrunedBack, SelectNavigation, SelectTab, WindowKind, PrunedFront, Pinned, WindowBounds, TabClosed, WindowClosed, ActiveWindow, LastActive, Pruned, TabGroup, AllWorkspaces, Raw}
 use Rattle.window_state.specs.declared.group_id.GroupId.{GroupId}
-use Rattle.window_state.specs.PageLists.{prune, prune_back, prune_front}
-use Rattle.window_state.specs.Changes.{put_page, current_front, current_pruned, set_pair}
+use Rattle.window_state.specs.PageLists.{prune_back}
+use Rattle.window_state.specs.Changes.{put_page, front_pruned, range_pruned, set_pair}
 use Rattle.window_state.specs.States.{State, on_tab, on_window, placed, with_group, with_active, tab_closed, window_closed}
 
 abbrev pub group_where : ℕ → ℕ → Bool → Option GroupId
@@ -18,8 +18,8 @@ step s (TabIndex tab index) = on_tab tab (λ t. record t { index = index }) s
 step s (UpdateNavigation tab index navigation) = on_tab tab (λ t. record t { pages = put_page index navigation t.pages }) s
 step s (SelectNavigation tab index) = on_tab tab (λ t. record t { current = index }) s
 step s (PrunedBack tab index) = on_tab tab (λ t. record t { pages = prune_back index t.pages }) s
-step s (PrunedFront tab count) = on_tab tab (λ t. record t { pages = prune_front count t.pages; current = current_front count t.current }) s
-step s (Pruned tab index count) = on_tab tab (λ t. record t { pages = prune index count t.pages; current = current_pruned index count t.current }) s
+step s (PrunedFront tab count) = on_tab tab (front_pruned count) s
+step s (Pruned tab index count) = on_tab tab (range_pruned index count) s
 step s (SelectTab window index) = on_window window (λ w. record w { selected = index }) s
 step s (WindowKind window kind) = on_window window (λ w. record w { info = record w.info { kind = kind } }) s
 step s (WindowBounds window bounds) = on_window window (λ w. record w { info = record w.info { bounds = Some bounds } }) s

@@ -6,6 +6,7 @@ pub mod ChangeLaws
 pub mod StateLaws
 pub mod PairLaws
 pub mod MemberLaws
+pub mod RangeLaws
 pub mod PositionLaws
 pub mod ShownLaws
 pub mod WindowRange

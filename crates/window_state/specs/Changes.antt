@@ -66,6 +66,13 @@ current_pruned first count current =
     then (if is_pruned first count current then first -ℤ pos 1 else (if int_lt first current then current -ℤ count else current))
     else current
 
+-- a tab when pages at its front go, and when pages in a range go
+abbrev pub front_pruned : ℤ → Tab → Tab
+front_pruned count t = record t { pages = prune_front count t.pages; current = current_front count t.current }
+
+abbrev pub range_pruned : ℤ → ℤ → Tab → Tab
+range_pruned first count t = record t { pages = prune first count t.pages; current = current_pruned first count t.current }
+
 -- the value of a key is set; a new key goes last
 abbrev pub set_pair : List ℕ → List ℕ → List (List ℕ × List ℕ) → List (List ℕ × List ℕ)
 set_pair key value extra = pairs.insert_entry (pointwise nat_eq) extra key value
@@ -75,8 +82,8 @@ changed_tab (tab.Index index) t = record t { index = index }
 changed_tab (tab.Page index navigation) t = record t { pages = put_page index navigation t.pages }
 changed_tab (tab.Current index) t = record t { current = index }
 changed_tab (tab.PruneBack index) t = record t { pages = prune_back index t.pages }
-changed_tab (tab.PruneFront count) t = record t { pages = prune_front count t.pages; current = current_front count t.current }
-changed_tab (tab.Prune index count) t = record t { pages = prune index count t.pages; current = current_pruned index count t.current }
+changed_tab (tab.PruneFront count) t = front_pruned count t
+changed_tab (tab.Prune index count) t = range_pruned index count t
 changed_tab (tab.Pinned pinned) t = record t { info = record t.info { pinned = pinned } }
 changed_tab (tab.Extension text) t = record t { info = record t.info { extension = Some text } }
 changed_tab (tab.Storage text) t = record t { info = record t.info { storage = Some text } }

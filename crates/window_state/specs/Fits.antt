@@ -5,6 +5,7 @@ use Rattle.std.specs.List.{AllByRecursion, IsDistinct}
 use Rattle.std.specs.Map.{keys_of}
 use Rattle.std.specs.Cmp.Lexicographic.{pointwise}
 use Rattle.pickle_cells.specs.Cell.{string_size}
+use Rattle.window_state.specs.Limits.{payload_limit}
 use Rattle.window_state.specs.PageLists.{IsRising}
 use Rattle.window_state.specs.declared.tab.Tab.{Tab}
 use Rattle.window_state.specs.declared.window.Window.{Window}
@@ -15,15 +16,15 @@ use Rattle.window_state.specs.declared.change.WindowChange.TheVariants as window
 
 -- a number and a text
 abbrev pub FitsText : List ℕ → Type 0
-FitsText text = 8 + string_size (length text) ≤ 65534
+FitsText text = 8 + string_size (length text) ≤ payload_limit
 
 -- a number and whole words behind it
 abbrev pub FitsRest : List ℕ → Type 0
-FitsRest rest = (length rest % 4 ≡ 0) × (8 + length rest ≤ 65534)
+FitsRest rest = (length rest % 4 ≡ 0) × (8 + length rest ≤ payload_limit)
 
 -- a number, a key and its value
 abbrev pub FitsPair : List ℕ × List ℕ → Type 0
-FitsPair pair = 8 + string_size (length pair.0) + string_size (length pair.1) ≤ 65534
+FitsPair pair = 8 + string_size (length pair.0) + string_size (length pair.1) ≤ payload_limit
 
 -- no key of the pairs stands twice
 abbrev pub HasDistinctKeys : List (List ℕ × List ℕ) → Type 0

@@ -1,4 +1,3 @@
-pub mod Lent
 pub mod Limits
 pub mod PageLists
 pub mod RowLists
@@ -6,6 +5,7 @@ pub mod Keys
 pub mod KeyLaws
 pub mod Changes
 pub mod Fits
+pub mod Ranges
 pub mod States
 pub mod Members
 pub mod Views

@@ -7,7 +7,7 @@ use Rattle.std.specs.declared.cmp.Ordering.{Ordering}
 use Rattle.window_state.specs.declared.tab.Tab.{Tab}
 use Rattle.window_state.specs.RowLists.{find_row}
 use Rattle.window_state.specs.Keys.{tab_key}
-use Rattle.window_state.specs.States.{State, IsKept, is_in}
+use Rattle.window_state.specs.States.{State, IsKept, IsStateInRange, is_in}
 
 -- by window, then by tab
 abbrev pub pair_cmp : ℤ × ℤ → ℤ × ℤ → Ordering
@@ -44,3 +44,8 @@ AreMembers pairs tabs = (w t : ℤ) → has_pair w t pairs ≡ is_in w (window_o
 pub record IsHeld (pairs : List (ℤ × ℤ)) (s : State) : Type 0 where
   pub kept : IsKept s
   pub members : AreMembers pairs s.tabs
+
+-- what a state in hand keeps, its numbers among it
+pub record IsHeldInRange (pairs : List (ℤ × ℤ)) (s : State) : Type 0 where
+  pub held : IsHeld pairs s
+  pub ranged : IsStateInRange s

@@ -1,6 +1,7 @@
 -- The state of a session: tabs and windows by rising id, groups by rising token, and the active window. A change
 -- first makes the tab or the window that it names; where that would be one too many, nothing changes.
-use Rattle.std.specs.Prelude.{◌≤◌, nat_le, ℤ, Bool, false, not, ◌&&◌, List, [], length, map, filter, Option, Some, None, is_some, IfSome, IsTrue, if◌then◌else◌}
+use Rattle.std.specs.Prelude.{◌≤◌, nat_le, ℤ, Bool, false, not, ◌&&◌, List, [], length, map, filter, Option, Some, None, is_some, IfSome, IsTrue, FitsSigned, if◌then◌else◌}
+use Rattle.std.specs.Int.{w32}
 use Rattle.std.specs.List.{AllByRecursion}
 use Rattle.std.specs.List.Sorted.{IsStrictlySortedBy}
 use Rattle.std.specs.Ordering.{int_cmp, int_eq}
@@ -11,6 +12,7 @@ use Rattle.window_state.specs.RowLists.{find_row, put_row, step_row, without_row
 use Rattle.window_state.specs.Keys.{tab_key, window_key, group_key, group_cmp}
 use Rattle.window_state.specs.Changes.{new_tab, new_window}
 use Rattle.window_state.specs.Fits.{IsKeptTab, IsKeptWindow}
+use Rattle.window_state.specs.Ranges.{IsTabInRange, IsWindowInRange, IsGroupInRange}
 use Rattle.window_state.specs.Limits.{limit}
 
 pub record State : Type 0 where
@@ -92,7 +94,15 @@ pub record IsOrdered (s : State) : Type 0 where
   pub windows : IsStrictlySortedBy int_cmp (map window_key s.windows)
   pub groups : IsStrictlySortedBy group_cmp (map group_key s.groups)
 
+-- the numbers are in the ranges of their types
+pub record IsStateInRange (s : State) : Type 0 where
+  pub tabs : AllByRecursion IsTabInRange s.tabs
+  pub windows : AllByRecursion IsWindowInRange s.windows
+  pub groups : AllByRecursion IsGroupInRange s.groups
+  pub active : IfSome s.active (FitsSigned w32)
+
 -- what every state keeps
 pub record IsState (s : State) : Type 0 where
   pub kept : IsKept s
   pub ordered : IsOrdered s
+  pub ranged : IsStateInRange s

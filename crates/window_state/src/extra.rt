@@ -1,9 +1,11 @@
 //! Further values of a tab or a window, under keys.
-ghost use Rattle.std.specs.Prelude.{◌≡◌, ◌<◌, [], length, nat_eq, slice_get, Some, IfOk, OnOk, OnErr};
+ghost use Rattle.std.specs.Prelude.{◌≡◌, ◌<◌, ◌↔◌, ℕ, List, [], length, nat_eq, slice_get, Some, IsTrue, IfOk, OnOk, OnErr};
+ghost use Rattle.std.specs.Map.Iter.{ShowsInOrder, deref_pair};
 ghost use Rattle.std.specs.Cmp.Lexicographic.{pointwise};
 ghost use Rattle.indexmap.specs.IndexMap.{insert_entry};
 
 use indexmap::IndexMap;
+use indexmap::map::Iter;
 use pickle_cells::Blob;
 use std::alloc::{AllocError, Global};
 use std::marker::Model;
@@ -43,6 +45,20 @@ impl Extra {
         ensures { result ≡ length self.now }
     {
         self.pairs.len()
+    }
+
+    pub fn is_empty(&self) -> bool
+        ensures { IsTrue result ↔ (self.now ≡ []) }
+    {
+        self.pairs.is_empty()
+    }
+
+    /// The pairs in their order. It takes no memory.
+    pub fn iter(&self) -> Iter<'_, Blob, Blob>
+        ensures rest { result ≡ self.now }
+        ensures runs { ShowsInOrder (deref_pair {K = List ℕ} {X = List ℕ}) }
+    {
+        self.pairs.iter()
     }
 
     /// The key at a place and its value.

@@ -1,7 +1,7 @@
 //! What tells groups of tabs apart.
 
 /// A group's token: two numbers, compared one after the other.
-#[derive(Clone, Copy, Debug, PartialEq, Eq, PartialOrd, Ord, Hash)]
+#[derive(Clone, Copy, PartialEq, Eq, PartialOrd, Ord)]
 pub struct GroupId {
     pub high: u64,
     pub low: u64,

@@ -1,5 +1,12 @@
-//! The state of a session's tabs, windows and groups, and the view of it that a user sees. Stands on pickle_cells
-//! and navigation_entry.
+//! The state of a session's tabs, windows and groups, and the view of it that a user sees.
+//!
+//! ```
+//! let mut state = SessionState::start(alloc)?;
+//! state.place_tab(1, 2)?;
+//! let shown = view(alloc, &state)?;
+//! // A tab without pages isn't shown.
+//! assert!(rt; shown.windows.is_empty());
+//! ```
 #![tactic(auto)]
 
 mod change;
@@ -7,11 +14,12 @@ mod current;
 mod extra;
 mod group_id;
 mod group_rows;
-mod items;
 mod members;
 mod page_vec;
 mod pages;
+mod part;
 mod position;
+mod ranges;
 mod rows;
 mod shown;
 mod state;
@@ -26,7 +34,7 @@ mod window_rows;
 pub use change::{TabChange, TabStep, WindowChange};
 pub use extra::Extra;
 pub use group_id::GroupId;
-pub use items::Items;
+pub use page_vec::Page;
 pub use pages::Pages;
 pub use rows::{Changing, Row, Rows};
 pub use state::SessionState;

@@ -10,7 +10,8 @@ use crate::position;
 use navigation_entry::Navigation;
 use std::alloc::{AllocError, Global};
 
-pub(crate) type Page = (i32, Navigation);
+/// A page behind its index.
+pub type Page = (i32, Navigation);
 
 /// How many pages stand before an index.
 pub(crate) fn place_of(pages: &[Page], index: i32) -> usize
@@ -54,8 +55,10 @@ fn find_from(pages: &[Page], index: i32) -> Option<usize>
 
 // Whether the page in a place, where there is one, has the index.
 fn has(pages: &[Page], place: usize, index: i32) -> bool
-    ensures yes { IsTrue result → (place < length pages.now) × ((d : ℤ × Navigation) → (slice_index_or pages.now place d).0 ≡ index) }
-    ensures no { IsFalse result → place < length pages.now → (d : ℤ × Navigation) → (slice_index_or pages.now place d).0 ≢ index }
+    ensures yes { IsTrue result →
+        (place < length pages.now) × ((d : ℤ × Navigation) → (slice_index_or pages.now place d).0 ≡ index) }
+    ensures no { IsFalse result → place < length pages.now → (d : ℤ × Navigation) →
+        (slice_index_or pages.now place d).0 ≢ index }
 {
     if place < pages.len() {
         return pages[place].0 == index;
@@ -93,7 +96,8 @@ pub(crate) fn prune_back(pages: &mut Vec<Page>, index: i32)
 pub(crate) fn prune(pages: &mut Vec<Page>, first: i32, count: i32)
     requires first { pos 0 ≤ℤ first }
     requires count { pos 0 <ℤ count }
-    ensures { pages.new.items ≡ map (lowered first count) (filter (λ page. not (is_pruned first count page.0)) pages.old.items) }
+    ensures { pages.new.items ≡ map (lowered first count)
+        (filter (λ page. not (is_pruned first count page.0)) pages.old.items) }
 {
     pages.retain(|page| !is_pruned(first, count, page.0));
     lower_all(first, count, pages.as_mut_slice());

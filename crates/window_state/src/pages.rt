@@ -1,19 +1,23 @@
 //! The pages of a tab.
-ghost use Rattle.std.specs.Prelude.{◌≡◌, ◌<◌, ◌≤ℤ◌, pos, [], length, map, slice_get, Some, IfOk, OnOk, OnErr};
+ghost use Rattle.std.specs.Prelude.{ℤ, ◌≡◌, ◌<◌, ◌≤ℤ◌, ◌↔◌, pos, [], length, map, slice_get, Some, IsTrue, IfOk, OnOk, OnErr};
+ghost use Rattle.std.specs.Iterator.Adapters.{IterYieldsInOrder};
+ghost use Rattle.std.specs.Slice.Iter.{iter_rest};
 ghost use Rattle.std.specs.Ordering.{int_cmp};
 ghost use Rattle.std.specs.BTreeMap.{insert_entry};
 ghost use Rattle.window_state.specs.PageLists.{IsRising, prune, prune_back, prune_front};
 ghost use Rattle.window_state.specs.Views.{first_from};
+ghost use Rattle.navigation_entry.specs.declared.navigation.Navigation.{Navigation};
 
 use crate::page_vec;
 use crate::page_vec::Page;
 use navigation_entry::Navigation;
 use std::alloc::{AllocError, Global};
 use std::marker::Model;
+use std::slice::Iter;
 
 /// Pages by rising index, none negative. It holds one vector and the pages' texts: a look-up of an index takes time
 /// in the logarithm of the number of pages, a page that is put in before others, or a pruning, in that number.
-#[derive(Debug, Drop)]
+#[derive(Drop)]
 pub struct Pages {
     pages: Vec<Page>,
 }
@@ -45,6 +49,20 @@ impl Pages {
         ensures rising { IsRising (pos 0) self.now }
     {
         self.pages.len()
+    }
+
+    pub fn is_empty(&self) -> bool
+        ensures { IsTrue result ↔ (self.now ≡ []) }
+    {
+        self.pages.is_empty()
+    }
+
+    /// The pages by rising index, each behind its index. It takes no memory.
+    pub fn iter(&self) -> Iter<'_, Page>
+        ensures rest { iter_rest result ≡ self.now }
+        ensures runs { IterYieldsInOrder (ℤ × Navigation) }
+    {
+        self.pages.iter()
     }
 
     /// The page at a place, with its index.

@@ -1,5 +1,5 @@
 //! An ordered map of rows, each of which says its own key, seen as the list of the rows by rising key.
-ghost use Rattle.std.specs.Prelude.{◌≡◌, ◌≤◌, nat_le, [], length, map, not, is_some, true, IfOk, OnOk, OnErr};
+ghost use Rattle.std.specs.Prelude.{◌≡◌, ◌≤◌, nat_le, [], length, map, not, is_some, true, ◌↔◌, IsTrue, IfOk, OnOk, OnErr};
 ghost use Rattle.std.specs.Option.{option_copied};
 ghost use Rattle.std.specs.List.Sorted.{IsStrictlySortedBy};
 ghost use Rattle.std.specs.Map.Iter.{ShowsInOrder, deref};
@@ -83,6 +83,12 @@ impl<R: Row> Rows<R> {
         self.rows.len()
     }
 
+    pub fn is_empty(&self) -> bool
+        ensures { IsTrue result ↔ (self.now ≡ []) }
+    {
+        self.rows.is_empty()
+    }
+
     /// The rows by rising key.
     pub fn iter(&self) -> Values<'_, R::Key, R>
         ensures rest { result ≡ self.now }
@@ -101,7 +107,8 @@ impl<R: Row> Rows<R> {
     /// Whether there are as many rows as there may be, and none with the key.
     pub fn is_full_for(&self, id: R::Key) -> bool
         requires { length self.now ≤ limit }
-        ensures { (fresh : R) (change : R → R) → nat_le (length (step_row R.Key.cmp R.key id fresh change self.now)) limit ≡ not result }
+        ensures { (fresh : R) (change : R → R) →
+            nat_le (length (step_row R.Key.cmp R.key id fresh change self.now)) limit ≡ not result }
     {
         let len = self.rows.len();
         if self.rows.contains_key(&id) {

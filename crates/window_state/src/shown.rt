@@ -62,7 +62,8 @@ impl<'a> Shown<'a> {
         ensures tabs { IfOk result (λ s. (window : ℤ) → tabs_in window s ≡ shown_tabs window tabs.now) }
         ensures count { IfOk result (λ s. length s.tabs.entries ≤ length tabs.now) }
         ensures fits { IfOk result (λ s. AllByRecursion FitsPlace (keys_of s.tabs.entries)) }
-        ensures groups { IfOk result (λ s. (group : GroupInfo) → contains group_cmp s.groups (group_key group) ≡ is_used tabs.now group) }
+        ensures groups { IfOk result
+            (λ s. (group : GroupInfo) → contains group_cmp s.groups (group_key group) ≡ is_used tabs.now group) }
     {
         let mut shown = Shown {
             tabs: BTreeMap::new(alloc),
@@ -76,14 +77,20 @@ impl<'a> Shown<'a> {
 
     // The tab is put in where it is shown.
     fn add(&mut self, tab: &'a Tab) -> Result<(), AllocError>
-        ensures tabs { OnOk result (entries_of self.new.tabs.entries ≡ put_shown (entries_of self.old.tabs.entries) tab.now) }
-        ensures fits { OnOk result (AllByRecursion FitsPlace (keys_of self.old.tabs.entries) → AllByRecursion FitsPlace (keys_of self.new.tabs.entries)) }
-        ensures groups { OnOk result ((group : GroupInfo) → contains group_cmp self.new.groups (group_key group) ≡ contains group_cmp self.old.groups (group_key group) || uses group tab.now) }
+        ensures tabs { OnOk result
+            (entries_of self.new.tabs.entries ≡ put_shown (entries_of self.old.tabs.entries) tab.now) }
+        ensures fits { OnOk result
+            (AllByRecursion FitsPlace (keys_of self.old.tabs.entries) →
+            AllByRecursion FitsPlace (keys_of self.new.tabs.entries)) }
+        ensures groups { OnOk result
+            ((group : GroupInfo) →
+            contains group_cmp self.new.groups (group_key group) ≡ contains group_cmp self.old.groups
+            (group_key group) || uses group tab.now) }
     {
         let Some(window) = tab.window else {
             return Ok(());
         };
-        if tab.pages.len() == 0 {
+        if tab.pages.is_empty() {
             return Ok(());
         }
         let place = Place {
@@ -120,15 +127,18 @@ fn put_tab<'a>(
     place: Place,
     tab: &'a Tab,
 ) -> Result<(), AllocError>
-    ensures entries { OnOk result (entries_of tabs.new.entries ≡ insert_entry place_order (entries_of tabs.old.entries) place tab.now) }
-    ensures fits { OnOk result (AllByRecursion FitsPlace (keys_of tabs.old.entries) → AllByRecursion FitsPlace (keys_of tabs.new.entries)) }
+    ensures entries { OnOk result
+        (entries_of tabs.new.entries ≡ insert_entry place_order (entries_of tabs.old.entries) place tab.now) }
+    ensures fits { OnOk result
+        (AllByRecursion FitsPlace (keys_of tabs.old.entries) → AllByRecursion FitsPlace (keys_of tabs.new.entries)) }
 {
     tabs.insert(place, tab)?;
     Ok(())
 }
 
 fn put_group(groups: &mut BTreeSet<GroupId>, group: Option<GroupId>) -> Result<(), AllocError>
-    ensures { OnOk result ((id : GroupId) → contains group_cmp groups.new id ≡ contains group_cmp groups.old id || is_group id group) }
+    ensures { OnOk result
+        ((id : GroupId) → contains group_cmp groups.new id ≡ contains group_cmp groups.old id || is_group id group) }
 {
     if let Some(group) = group {
         groups.insert(group)?;

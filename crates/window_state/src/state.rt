@@ -9,6 +9,7 @@ ghost use Rattle.window_state.specs.Members.{window_of, AreMembers};
 
 use crate::change::{TabChange, TabStep, WindowChange};
 use crate::members::Members;
+use crate::ranges;
 use crate::rows::Rows;
 use crate::tab::Tab;
 use crate::window::Window;
@@ -34,13 +35,13 @@ pub struct SessionState {
 
 impl Model for SessionState {
     ghost use Rattle.window_state.specs.States.{State};
-    ghost use Rattle.window_state.specs.Members.{IsHeld};
+    ghost use Rattle.window_state.specs.Members.{IsHeldInRange};
 
     ghost Value = { State };
 
     ghost view = { λ s. record { tabs = s.tabs; windows = s.windows; groups = s.groups; active = s.active } };
 
-    ghost invariant = { λ s. IsHeld s.members (record { tabs = s.tabs; windows = s.windows; groups = s.groups; active = s.active }) };
+    ghost invariant = { λ s. IsHeldInRange s.members (record { tabs = s.tabs; windows = s.windows; groups = s.groups; active = s.active }) };
 }
 
 impl SessionState {
@@ -107,6 +108,7 @@ impl SessionState {
         }
         // The length says that the tabs are in order.
         let _len = self.tabs.len();
+        change.known_in_range();
         self.tabs.step(self.alloc, id, TabStep::Changed(change))
     }
 
@@ -119,6 +121,7 @@ impl SessionState {
         if self.windows.is_full_for(id) {
             return Ok(());
         }
+        change.known_in_range();
         self.windows.step(self.alloc, id, change)
     }
 
@@ -127,6 +130,7 @@ impl SessionState {
         ensures ok { OnOk result (self.new ≡ with_group group self.old) }
         ensures err { OnErr result (self.new ≡ self.old) }
     {
+        ranges::of_group(&group);
         self.groups.put(group)
     }
 
@@ -236,7 +240,8 @@ fn place(
     tab: i32,
 ) -> Result<(), AllocError>
     ensures windows { OnOk result (windows.new ≡ step_row int_cmp window_key window (new_window window) (λ w. w) windows.old) }
-    ensures tabs { OnOk result (tabs.new ≡ step_row int_cmp tab_key tab (new_tab tab) (λ t. record t { window = Some window }) tabs.old) }
+    ensures tabs { OnOk result
+        (tabs.new ≡ step_row int_cmp tab_key tab (new_tab tab) (λ t. record t { window = Some window }) tabs.old) }
     ensures err { OnErr result ((windows.new ≡ windows.old) × (tabs.new ≡ tabs.old)) }
 {
     let stood = windows.has(window);

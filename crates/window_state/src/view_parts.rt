@@ -1,11 +1,12 @@
 //! What a user sees of a state.
 ghost use Rattle.std.specs.Prelude.{◌≡◌, IfOk};
 
-use crate::items::Items;
+use crate::part::{Part, copied};
 use crate::tab::TabInfo;
 use crate::window::WindowInfo;
+use item_list::Items;
 use navigation_entry::{GroupInfo, Navigation};
-use std::alloc::{AllocError, Global};
+use std::alloc::AllocError;
 
 /// A shown tab: its pages in their order, and the place of the current one among them.
 #[derive(Drop)]
@@ -15,12 +16,10 @@ pub struct ViewTab {
     pub current: u32,
 }
 
-impl ViewTab {
-    fn copy(&self, alloc: Global) -> Result<ViewTab, AllocError>
-        ensures { IfOk result (λ t. t ≡ self.now) }
-    {
+impl Part for ViewTab {
+    fn copy(&self) -> Result<ViewTab, AllocError> {
         let info = self.info.copy()?;
-        let pages = copied_pages(alloc, self.pages.as_slice())?;
+        let pages = copied(self.pages.allocator(), self.pages.as_slice())?;
         Ok(ViewTab {
             info,
             pages: Items::from_vec(pages),
@@ -37,12 +36,10 @@ pub struct ViewWindow {
     pub tabs: Items<ViewTab>,
 }
 
-impl ViewWindow {
-    fn copy(&self, alloc: Global) -> Result<ViewWindow, AllocError>
-        ensures { IfOk result (λ w. w ≡ self.now) }
-    {
+impl Part for ViewWindow {
+    fn copy(&self) -> Result<ViewWindow, AllocError> {
         let info = self.info.copy()?;
-        let tabs = copied_tabs(alloc, self.tabs.as_slice())?;
+        let tabs = copied(self.tabs.allocator(), self.tabs.as_slice())?;
         Ok(ViewWindow {
             info,
             selected: self.selected,
@@ -65,8 +62,8 @@ impl View {
         ensures { IfOk result (λ v. v ≡ self.now) }
     {
         let alloc = self.windows.allocator();
-        let windows = copied_windows(alloc, self.windows.as_slice())?;
-        let groups = copied_groups(alloc, self.groups.as_slice())?;
+        let windows = copied(alloc, self.windows.as_slice())?;
+        let groups = copied(alloc, self.groups.as_slice())?;
         Ok(View {
             windows: Items::from_vec(windows),
             groups: Items::from_vec(groups),
@@ -75,42 +72,14 @@ impl View {
     }
 }
 
-fn copied_pages(alloc: Global, pages: &[Navigation]) -> Result<Vec<Navigation>, AllocError>
-    ensures { IfOk result (λ v. v.items ≡ pages.now) }
-{
-    let mut copied = Vec::with_capacity(alloc, pages.len())?;
-    for page in pages {
-        copied.push(page.copy()?)?;
+impl Part for Navigation {
+    fn copy(&self) -> Result<Navigation, AllocError> {
+        Navigation::copy(self)
     }
-    Ok(copied)
 }
 
-fn copied_tabs(alloc: Global, tabs: &[ViewTab]) -> Result<Vec<ViewTab>, AllocError>
-    ensures { IfOk result (λ v. v.items ≡ tabs.now) }
-{
-    let mut copied = Vec::with_capacity(alloc, tabs.len())?;
-    for tab in tabs {
-        copied.push(tab.copy(alloc)?)?;
+impl Part for GroupInfo {
+    fn copy(&self) -> Result<GroupInfo, AllocError> {
+        GroupInfo::copy(self)
     }
-    Ok(copied)
-}
-
-fn copied_windows(alloc: Global, windows: &[ViewWindow]) -> Result<Vec<ViewWindow>, AllocError>
-    ensures { IfOk result (λ v. v.items ≡ windows.now) }
-{
-    let mut copied = Vec::with_capacity(alloc, windows.len())?;
-    for window in windows {
-        copied.push(window.copy(alloc)?)?;
-    }
-    Ok(copied)
-}
-
-fn copied_groups(alloc: Global, groups: &[GroupInfo]) -> Result<Vec<GroupInfo>, AllocError>
-    ensures { IfOk result (λ v. v.items ≡ groups.now) }
-{
-    let mut copied = Vec::with_capacity(alloc, groups.len())?;
-    for group in groups {
-        copied.push(group.copy()?)?;
-    }
-    Ok(copied)
 }

@@ -11,7 +11,6 @@ ghost use Rattle.window_state.specs.Keys.{group_key, group_cmp};
 ghost use Rattle.window_state.specs.Views.{view, view_windows, with_shown, view_window, view_tab, active_shown, least_shown, first_from};
 ghost use Rattle.window_state.specs.Shown.{tabs_in, FitsPlace};
 
-use crate::items::Items;
 use crate::position;
 use crate::rows::{Row, Rows};
 use crate::shown::Shown;
@@ -19,6 +18,7 @@ use crate::state::SessionState;
 use crate::tab::Tab;
 use crate::view_parts::{View, ViewTab, ViewWindow};
 use crate::window::Window;
+use item_list::Items;
 use navigation_entry::GroupInfo;
 use std::alloc::{AllocError, Global};
 
@@ -128,7 +128,8 @@ fn used_groups(
     groups: &Rows<GroupInfo>,
     shown: &Shown<'_>,
 ) -> Result<Vec<GroupInfo>, AllocError>
-    ensures { IfOk result (λ v. v.items ≡ filter (λ group. contains group_cmp shown.now.groups (group_key group)) groups.now) }
+    ensures { IfOk result
+        (λ v. v.items ≡ filter (λ group. contains group_cmp shown.now.groups (group_key group)) groups.now) }
 {
     let mut used = Vec::new(alloc);
     for group in groups.iter() {

@@ -4,6 +4,7 @@ use Rattle.window_state.specs.Changes.{new_tab, new_window}
 use Rattle.window_state.specs.States.{State, placed}
 use Rattle.window_state.proofs.StateLaws.{full-placed_window, full-placed_tab}
 use Rattle.window_state.proofs.MemberLaws.{held-placed, held-undone}
+use Rattle.window_state.proofs.RangeLaws.{both-in_range}
 use Rattle.window_state.proofs.state.SessionState.place_tab.Goals as goal
 
 pub returns-then-is_full_for-clause-ok : goal.returns-then-is_full_for-clause-ok
@@ -32,7 +33,10 @@ invariant_of-self-in-Ok c =
     let windows = simp to_z-of_z at c.in-Ok.ensures.windows in
     let tabs = simp to_z-of_z at c.in-Ok.ensures.tabs in
     let s : State = record { tabs = c.self.inside.tabs; windows = c.self.inside.windows; groups = c.self.inside.groups; active = c.self.inside.active } in
-    rw (windows, tabs) (held-placed c.args.window c.args.tab c.self.inside.members c.insert.new.self c.leave.new.self s put leave (room_window ∙ ap not c.if-is_full_for.false) (room_tab ∙ ap not c.if-is_full_for-2.false) c.len-len.ensures.ordered c.self.invariant)
+    rw (windows, tabs) (record {
+      held = held-placed c.args.window c.args.tab c.self.inside.members c.insert.new.self c.leave.new.self s put leave (room_window ∙ ap not c.if-is_full_for.false) (room_tab ∙ ap not c.if-is_full_for-2.false) c.len-len.ensures.ordered c.self.invariant.held;
+      ranged = both-in_range c.args.window c.args.tab s f g c.self.invariant.ranged;
+    })
 
 pub invariant_of-self-in-Err : goal.invariant_of-self-in-Err
 invariant_of-self-in-Err c =
@@ -42,4 +46,7 @@ invariant_of-self-in-Err c =
     let own = simp to_z-of_z at c.window_of-own.ensures in
     let leave = rw own at (simp to_z-of_z at c.leave-in-Err.ensures) in
     let s : State = record { tabs = c.self.inside.tabs; windows = c.self.inside.windows; groups = c.self.inside.groups; active = c.self.inside.active } in
-    rw (c.in-Err.ensures.err.0, c.in-Err.ensures.err.1) (held-undone c.args.window c.args.tab c.self.inside.members c.insert.new.self c.leave-in-Err.new.self s put leave c.self.invariant)
+    rw (c.in-Err.ensures.err.0, c.in-Err.ensures.err.1) (record {
+      held = held-undone c.args.window c.args.tab c.self.inside.members c.insert.new.self c.leave-in-Err.new.self s put leave c.self.invariant.held;
+      ranged = c.self.invariant.ranged;
+    })

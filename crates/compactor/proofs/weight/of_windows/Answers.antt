@@ -1,7 +1,0 @@
-use Rattle.std.proofs.Common.{sum_by}
-use Rattle.compactor.specs.Compaction.{window_weight}
-use Rattle.compactor.proofs.Weights.{all_added}
-use Rattle.compactor.proofs.weight.of_windows.Goals as goal
-
-pub returns : goal.returns
-returns c = all_added window_weight _ c.loop-window.weight (sum_by window_weight c.args.windows.now) 18446744073709551615 c.in-None.ensures.steps.0 c.loop-window.invariant.0 c.loop-window.invariant.1

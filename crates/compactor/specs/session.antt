@@ -1,0 +1,4 @@
+-- A session as a machine: the commands that restate its state, its kind, and its laws.
+pub mod Compaction
+pub mod SessionKind
+pub mod Laws

@@ -1,0 +1,26 @@
+-- The commands of a session and its state as a kind of machine. Nothing is tidied yet, and no command covers another.
+use Rattle.std.specs.Prelude.{false, []}
+use Rattle.machine_law.specs.Kind.{Kind}
+use Rattle.session_commands.specs.declared.command.SessionCommand.{SessionCommand}
+use Rattle.session_commands.specs.Table.{Payload, IsSound, IsInRange, id_of, payload_of}
+use Rattle.window_state.specs.States.{State, start}
+use Rattle.replay_machine.specs.Step.{step}
+use Rattle.compactor.specs.session.Compaction.{compaction, weight}
+
+abbrev pub session_kind : Kind State SessionCommand
+session_kind = record {
+  start = start;
+  step = step;
+  compaction = compaction;
+  weight = weight;
+  tidying = λ state. [];
+  id = id_of;
+  payload = payload_of;
+  Payload = Payload;
+  covers = λ first second. false;
+}
+
+-- the payload can be written, and the numbers are in the ranges of their types
+pub record IsCommand (command : SessionCommand) : Type 0 where
+  pub sound : IsSound command
+  pub ranged : IsInRange command

@@ -1,5 +1,0 @@
-use Rattle.std.proofs.Common.{◌≡◌, take}
-use Rattle.window_state.proofs.view_parts.copied_tabs.Given as goal
-
-abbrev pub invariant-loop-tab : goal.invariant-loop-tab
-invariant-loop-tab l = l.copied.items ≡ take l.tab-index l.tabs

@@ -1,8 +1,0 @@
--- A vector as the logic holds it, for the clause on what a list of items lends.
-use Rattle.std.specs.Borrow.{RattleType}
-use Rattle.std.specs.contracts.alloc.Global as global
-use Rattle.std.specs.contracts.vec.Vec as vec
-use Rattle.std.specs.contracts.impls.GlobalAllocator.TheImpl.{ghosts}
-
-abbrev pub items_row : RattleType → RattleType
-items_row item = vec.the_row item global.the_row ghosts
