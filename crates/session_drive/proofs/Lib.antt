@@ -1,9 +1,8 @@
-pub mod LineLaws
-pub mod TabLineLaws
-pub mod TabLineReading
-pub mod StreamLaws
 pub mod WordLaws
 pub mod ShownLaws
-pub mod IssuingLaws
+pub mod CourseLaws
+pub mod LineLaws
+pub mod IssueLaws
+pub mod ScriptLaws
 pub mod OutputLaws
 pub mod StepLaws

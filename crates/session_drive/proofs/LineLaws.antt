@@ -1,58 +1,84 @@
--- A text that is cut at a byte: its pieces, and its lines.
-use Rattle.std.proofs.Common.{◌≡◌, ◌≢◌, ℕ, ◌<◌, Bool, true, false, cond, eqb, List, [], ◌∷◌, ◌++◌, length, refl, ap, ◌∙◌, arith}
-use Rattle.std.specs.List.{AllByRecursion}
-use Rattle.std.proofs.lemmas.Bool.Decides.{nat_tests}
-use Rattle.session_drive.specs.Lines.{with_front, pieces, lines, fields, Lacks, CutsAt}
+-- The lines of a script, read one by one: what was read and what is left make the script's commands, and its first refused
+-- line.
+use Rattle.std.proofs.Common.{◌≡◌, ℕ, suc, ◌+◌, ◌≤◌, ◌<◌, Bool, true, false, cond, eqb, List, [], ◌∷◌, ◌++◌, length, Option, Some, None, append_assoc, add-one, refl, sym, ap, ◌∙◌, arith}
+use Rattle.session_commands.specs.declared.command.SessionCommand.{SessionCommand}
+use Rattle.script_lines.specs.declared.tab_line.TabLine.{TabLine}
+use Rattle.script_lines.specs.Lines.{lines, with_byte}
+use Rattle.script_lines.specs.TabLine.{tab_of}
+use Rattle.session_drive.specs.Issued.{command_of, issued_by, issued_after, issued, refused_from, refused_after, refused_line}
 
-same : (b : ℕ) → eqb b b ≡ true
-same b = grind (arith, nat_tests)
+-- how far the lines of a text were read
+pub record LinesSoFar (text rest : List ℕ) (count : ℕ) : Type 0 where
+  pub room : count + length rest ≤ length text
+  pub counted : count + length (issued_by (lines rest)) ≡ length (issued text)
+  pub refused : refused_from (suc count) (lines rest) ≡ refused_line text
 
-other : (b by : ℕ) → b ≢ by → eqb b by ≡ false
-other b by ne = grind (arith, nat_tests)
+pub lines_none : (text : List ℕ) → LinesSoFar text text 0
+lines_none text = record { room = omega arith; counted = omega arith; refused = refl }
 
--- the first piece ends where the byte stands first
-pub pieces-cut : (by : ℕ) (front rest : List ℕ) → AllByRecursion (λ b. b ≢ by) front → pieces by (front ++ by ∷ rest) ≡ front ∷ pieces by rest
-pieces-cut by [] rest h = rw (same by) refl
-pieces-cut by (b ∷ front) rest h = rw (other b by h.0) (ap (with_front b) (pieces-cut by front rest h.1))
+pub issued_first : (rest line after : List ℕ) (said : TabLine) → lines rest ≡ line ∷ lines after → tab_of line ≡ Some said → issued_by (lines rest) ≡ command_of said ∷ issued_by (lines after)
+issued_first rest line after said e f = ap issued_by e ∙ ap (λ (r : Option TabLine). issued_after r (issued_by (lines after))) f
 
--- without the byte there is one piece
-pub pieces-whole : (by : ℕ) (front : List ℕ) → AllByRecursion (λ b. b ≢ by) front → pieces by front ≡ front ∷ []
-pieces-whole by [] h = refl
-pieces-whole by (b ∷ front) h = rw (other b by h.0) (ap (with_front b) (pieces-whole by front h.1))
+issued_refused : (rest line after : List ℕ) → lines rest ≡ line ∷ lines after → tab_of line ≡ None → issued_by (lines rest) ≡ []
+issued_refused rest line after e f = ap issued_by e ∙ ap (λ (r : Option TabLine). issued_after r (issued_by (lines after))) f
 
-chosen_some : (t : Bool) (b : ℕ) (others : List (List ℕ)) → (first : List ℕ) × (rest : List (List ℕ)) × (cond t ([] ∷ others) (with_front b others) ≡ first ∷ rest)
-chosen_some true b others = ([], others, refl)
-chosen_some false b [] = (b ∷ [], [], refl)
-chosen_some false b (piece ∷ others) = (b ∷ piece, others, refl)
+-- one line further
+pub lines_more : (text rest line after : List ℕ) (count : ℕ) (said : TabLine) → LinesSoFar text rest count → lines rest ≡ line ∷ lines after → tab_of line ≡ Some said → length after < length rest → LinesSoFar text after (count + 1)
+lines_more text rest line after count said b e f shorter =
+    let here = issued_first rest line after said e f in
+    record {
+      room = omega (arith, b.room);
+      counted = omega (arith, ap length here, b.counted);
+      refused = rw add-one (sym (ap (refused_from (suc count)) e ∙ ap (λ (r : Option TabLine). refused_after r (suc count) (refused_from (suc (suc count)) (lines after))) f) ∙ b.refused);
+    }
 
--- there is a first piece
-pub pieces_some : (by : ℕ) (bytes : List ℕ) → (first : List ℕ) × (others : List (List ℕ)) × (pieces by bytes ≡ first ∷ others)
-pieces_some by [] = ([], [], refl)
-pieces_some by (b ∷ bytes) = chosen_some (eqb b by) b (pieces by bytes)
+-- a line that says nothing is the first refused one
+pub lines_refused : (text rest line after : List ℕ) (count : ℕ) → LinesSoFar text rest count → lines rest ≡ line ∷ lines after → tab_of line ≡ None →
+    (Some (count + 1) ≡ refused_line text) × (count ≡ length (issued text)) × (issued_by (lines rest) ≡ [])
+lines_refused text rest line after count b e f =
+    let none = issued_refused rest line after e f in (
+      rw add-one (sym (ap (refused_from (suc count)) e ∙ ap (λ (r : Option TabLine). refused_after r (suc count) (refused_from (suc (suc count)) (lines after))) f) ∙ b.refused),
+      omega (arith, b.counted, ap length none),
+      none,
+    )
 
--- the first line ends where the line feed stands first
-pub lines-cut : (front rest : List ℕ) → AllByRecursion (λ b. b ≢ 10) front → lines (front ++ 10 ∷ rest) ≡ front ∷ lines rest
-lines-cut [] rest h = refl
-lines-cut (b ∷ front) rest h = rw (other b 10 h.0) (ap (with_front b) (lines-cut front rest h.1))
+-- no line is left
+pub lines_all : (text rest : List ℕ) (count : ℕ) → LinesSoFar text rest count → rest ≡ [] → (None ≡ refused_line text) × (count ≡ length (issued text)) × (issued_by (lines rest) ≡ [])
+lines_all text rest count b e =
+    let none : issued_by (lines rest) ≡ [] = ap (λ (x : List ℕ). issued_by (lines x)) e in (
+      sym (ap (λ (x : List ℕ). refused_from (suc count) (lines x)) e) ∙ b.refused,
+      omega (arith, b.counted, ap length none),
+      none,
+    )
 
--- a text without a line feed is one line
-pub lines-whole : (b : ℕ) (front : List ℕ) → AllByRecursion (λ c. c ≢ 10) (b ∷ front) → lines (b ∷ front) ≡ (b ∷ front) ∷ []
-lines-whole b [] h = rw (other b 10 h.0) refl
-lines-whole b (c ∷ front) h = rw (other b 10 h.0) (ap (with_front b) (lines-whole c front h.1))
+-- a text has no more commands than bytes
+length_with_byte : (b : ℕ) (ls : List (List ℕ)) → length (with_byte b ls) ≤ suc (length ls)
+length_with_byte b [] = omega arith
+length_with_byte b (l ∷ ls) = omega arith
 
--- the first line of a text that is cut at its first line feed
-pub lines_first : (text front rest : List ℕ) → CutsAt 10 text front rest → lines text ≡ front ∷ lines rest
-lines_first text front rest h = ap lines h.parts ∙ lines-cut front rest h.first
+length_cut : (t : Bool) (b : ℕ) (ls : List (List ℕ)) (n : ℕ) → length ls ≤ n → length (cond t ([] ∷ ls) (with_byte b ls)) ≤ suc n
+length_cut true b ls n h = omega (arith, h)
+length_cut false b ls n h = omega (arith, h, length_with_byte b ls)
 
--- a text without a line feed
-pub lines_only : (text : List ℕ) → 0 < length text → Lacks 10 text → lines text ≡ text ∷ []
-lines_only [] some h = absurd (omega arith)
-lines_only (b ∷ front) some h = lines-whole b front h
+length_lines : (text : List ℕ) → length (lines text) ≤ length text
+length_lines [] = omega arith
+length_lines (b ∷ bytes) = length_cut (eqb b 10) b (lines bytes) (length bytes) (length_lines bytes)
 
--- the first field of a line that is cut at its first space
-pub fields_first : (line front rest : List ℕ) → CutsAt 32 line front rest → fields line ≡ front ∷ fields rest
-fields_first line front rest h = ap fields h.parts ∙ pieces-cut 32 front rest h.first
+length_after : (said : Option TabLine) (later : List SessionCommand) (n : ℕ) → length later ≤ n → length (issued_after said later) ≤ suc n
+length_after None later n h = omega arith
+length_after (Some said) later n h = omega (arith, h)
 
--- a line without a space
-pub fields_only : (line : List ℕ) → Lacks 32 line → fields line ≡ line ∷ []
-fields_only line h = pieces-whole 32 line h
+length_issued_by : (ls : List (List ℕ)) → length (issued_by ls) ≤ length ls
+length_issued_by [] = omega arith
+length_issued_by (l ∷ ls) = length_after (tab_of l) (issued_by ls) (length ls) (length_issued_by ls)
+
+pub length_issued : (text : List ℕ) → length (issued text) ≤ length text
+length_issued text = omega (arith, length_issued_by (lines text), length_lines text)
+
+-- the commands so far, and one more, are a prefix of the script's
+pub step_split : (made later all : List SessionCommand) (rest : List SessionCommand) (c : SessionCommand) → made ++ rest ≡ all → rest ≡ c ∷ later → (made ++ c ∷ []) ++ later ≡ all
+step_split made later all rest c split e = append_assoc made (c ∷ []) later ∙ ap (λ (x : List SessionCommand). made ++ x) (sym e) ∙ split
+
+pub nothing_left : (bytes : List ℕ) → length bytes ≤ 0 → bytes ≡ []
+nothing_left [] h = refl
+nothing_left (b ∷ bytes) h = absurd (omega (arith, h))

@@ -6,16 +6,18 @@ use Rattle.session_disk.specs.Causes.{Rose}
 use Rattle.session_drive.specs.declared.status.Status.{Status}
 use Rattle.session_drive.specs.declared.status.Status.TheVariants.{Done, Usage, Refused, LastStamp, Disk, Read, Write, TooLong, Memory}
 use Rattle.session_drive.specs.declared.status.Long.TheVariants.{Script, File}
-use Rattle.session_drive.specs.Outcome.{last_line, answer_to, unsaid, IsFront}
-use Rattle.session_drive.specs.Run.{Faults, Cause, IsRun, IsStart, IsStartFront, IsBehindStart, SaysFault, Says, SaysCut, Prints}
-use Rattle.session_drive.specs.Steps.{SaysFirst, WritesLine}
+use Rattle.session_drive.specs.Outcome.{last_line, answer_to, unsaid, IsPrefix}
+use Rattle.session_drive.specs.Words.{limits_of, IsRun}
+use Rattle.session_drive.specs.Printed.{IsStart, IsStartPrefix, IsBehindStart, SaysFault, Says, SaysCut, Prints, SaysFirst}
+use Rattle.session_drive.specs.Run.{Found, Faults, Cause}
+use Rattle.session_drive.specs.Steps.{WritesLine}
 
-front_of_first : (said all more : List ℕ) → IsFront said all → IsFront said (all ++ more)
-front_of_first said all more (n, within, e) =
+prefix_of_first : (said all more : List ℕ) → IsPrefix said all → IsPrefix said (all ++ more)
+prefix_of_first said all more (n, within, e) =
     (n, omega (arith, length-append all more), e ∙ sym (take-append-le n all more within))
 
-front_behind : (first said all : List ℕ) → IsFront said all → IsFront (first ++ said) (first ++ all)
-front_behind first said all (n, within, e) =
+prefix_behind : (first said all : List ℕ) → IsPrefix said all → IsPrefix (first ++ said) (first ++ all)
+prefix_behind first said all (n, within, e) =
     (length first + n, omega (arith, length-append first all), ap (λ (x : List ℕ). first ++ x) e ∙ sym (take-append-add first all n))
 
 if_some : {X : Type 0} (P : X → Type 0) (o : Option X) → ((x : X) → P x) → IfSome o P
@@ -66,22 +68,22 @@ module _ (shows : ℕ → ℕ → Type 0) (words : List (List ℕ)) (text : Opti
   fault_whole last first (inl e) = inl (inl (ap (λ (x : List ℕ). x ++ last) e))
   fault_whole last first (inr h) = inr (first, h, last, inl refl, refl)
 
-  fault_cut : (last first said : List ℕ) → failed → IsFront said last → (first ≡ []) ⊎ IsStart shows first → SaysFault shows failed last (first ++ said)
+  fault_cut : (last first said : List ℕ) → failed → IsPrefix said last → (first ≡ []) ⊎ IsStart shows first → SaysFault shows failed last (first ++ said)
   fault_cut last first said f cut (inl e) = inl (inr (f, rw e cut))
   fault_cut last first said f cut (inr h) = inr (first, h, said, inr (f, cut), refl)
 
-  start_front : (last said : List ℕ) → IsStartFront shows [] said → IsStartFront shows last said
-  start_front last said (start, is, cut) = (start, is, front_of_first said start last (subst (λ (x : List ℕ). IsFront said x) (append-nil start) cut))
+  start_prefix : (last said : List ℕ) → IsStartPrefix shows [] said → IsStartPrefix shows last said
+  start_prefix last said (start, is, cut) = (start, is, prefix_of_first said start last (subst (λ (x : List ℕ). IsPrefix said x) (append-nil start) cut))
 
-  cut_first : (said : List ℕ) → IsRun words → IsStartFront shows [] said → SaysCut shows words text said
-  cut_first said run h = inr (run, if_some (λ all. IsStartFront shows (last_line (answer_to all)) said) text (λ all. start_front (last_line (answer_to all)) said h))
+  cut_first : (said : List ℕ) → IsRun words → IsStartPrefix shows [] said → SaysCut shows words text said
+  cut_first said run h = inr (run, if_some (λ all. IsStartPrefix shows (last_line (answer_to all)) said) text (λ all. start_prefix (last_line (answer_to all)) said h))
 
-  cut_last : (status : Status) (first said : List ℕ) → IsRun words → IfSome text (λ all. status ≡ answer_to all) → IsStart shows first → IsFront said (last_line status) → SaysCut shows words text (first ++ said)
+  cut_last : (status : Status) (first said : List ℕ) → IsRun words → IfSome text (λ all. status ≡ answer_to all) → IsStart shows first → IsPrefix said (last_line status) → SaysCut shows words text (first ++ said)
   cut_last status first said run told is cut =
       inr (
         run,
-        if_some_map (λ all. status ≡ answer_to all) (λ all. IsStartFront shows (last_line (answer_to all)) (first ++ said)) text
-            (λ all e. (first, is, front_behind first said (last_line (answer_to all)) (subst (λ (s : Status). IsFront said (last_line s)) e cut))) told,
+        if_some_map (λ all. status ≡ answer_to all) (λ all. IsStartPrefix shows (last_line (answer_to all)) (first ++ said)) text
+            (λ all e. (first, is, prefix_behind first said (last_line (answer_to all)) (subst (λ (s : Status). IsPrefix said (last_line s)) e cut))) told,
       )
 
   -- the last line was written whole
@@ -98,38 +100,36 @@ module _ (shows : ℕ → ℕ → Type 0) (words : List (List ℕ)) (text : Opti
   says_whole (LastStamp f n) first h run = fault_whole (last_line (LastStamp f n)) first h
 
   -- the last line was cut short
-  says_cut : (stands : ℕ → Type 0) (before after : Faults) (status : Status) (first said : List ℕ) →
-      Cause (record { words = words; text = text; stands = stands }) before after status → SaysFirst shows status first → (status ≡ Write → IsRun words) →
-      failed → IsFront said (last_line status) → Says shows words text failed (unsaid status) (first ++ said)
-  says_cut stands before after (Done s t) first said cause h run f cut = cut_last (Done s t) first said cause.0.run cause.1 h cut
-  says_cut stands before after Usage first said cause h run f cut = inl (cause, rw h cut)
-  says_cut stands before after (Refused l w) first said cause h run f cut = cut_last (Refused l w) first said cause.0.run cause.1 h cut
-  says_cut stands before after (Disk d) first said cause h run f cut = fault_cut (last_line (Disk d)) first said f cut h
-  says_cut stands before after Read first said cause h run f cut = inr (f, rw h cut)
-  says_cut stands before after Write first said cause h run f (n, within, e) =
+  says_cut : (found : Found) → found.words ≡ words → found.text ≡ text → (before after : Faults) (status : Status) (first said : List ℕ) → Cause found before after status → SaysFirst shows status first → (status ≡ Write → IsRun words) →
+      failed → IsPrefix said (last_line status) → Says shows words text failed (unsaid status) (first ++ said)
+  says_cut found w t before after (Done s k) first said cause h run f cut = cut_last (Done s k) first said (subst IsRun w cause.0.run) (subst (λ (o : Option (List ℕ)). IfSome o (λ all. Done s k ≡ answer_to all)) t cause.1) h cut
+  says_cut found w t before after Usage first said cause h run f cut = inl (ap limits_of (sym w) ∙ cause, rw h cut)
+  says_cut found w t before after (Refused l y) first said cause h run f cut = cut_last (Refused l y) first said (subst IsRun w cause.0.run) (subst (λ (o : Option (List ℕ)). IfSome o (λ all. Refused l y ≡ answer_to all)) t cause.1) h cut
+  says_cut found w t before after (Disk d) first said cause h run f cut = fault_cut (last_line (Disk d)) first said f cut h
+  says_cut found w t before after Read first said cause h run f cut = inr (f, rw h cut)
+  says_cut found w t before after Write first said cause h run f (n, within, e) =
       let none : said ≡ [] = e ∙ take_all {A = ℕ} n [] (omega arith) in
       rw (none, append-nil first) (cut_first first (run refl) h)
-  says_cut stands before after (TooLong Script n) first said cause h run f cut = inr (f, rw h cut)
-  says_cut stands before after (TooLong (File d) n) first said cause h run f cut = fault_cut (last_line (TooLong (File d) n)) first said f cut h
-  says_cut stands before after Memory first said cause h run f cut = fault_cut (last_line Memory) first said f cut h
-  says_cut stands before after (LastStamp d n) first said cause h run f cut = fault_cut (last_line (LastStamp d n)) first said f cut h
+  says_cut found w t before after (TooLong Script n) first said cause h run f cut = inr (f, rw h cut)
+  says_cut found w t before after (TooLong (File d) n) first said cause h run f cut = fault_cut (last_line (TooLong (File d) n)) first said f cut h
+  says_cut found w t before after Memory first said cause h run f cut = fault_cut (last_line Memory) first said f cut h
+  says_cut found w t before after (LastStamp d n) first said cause h run f cut = fault_cut (last_line (LastStamp d n)) first said f cut h
 
   -- both parts of the output
-  pub says_all : (stands : ℕ → Type 0) (before after : Faults) (old middle new : Option (List ℕ)) (status answer : Status) →
-      Cause (record { words = words; text = text; stands = stands }) before after status → Prints old middle (SaysFirst shows status) → (status ≡ Write → IsRun words) →
+  pub says_all : (found : Found) → found.words ≡ words → found.text ≡ text → (before after : Faults) (old middle new : Option (List ℕ)) (status answer : Status) → Cause found before after status → Prints old middle (SaysFirst shows status) → (status ≡ Write → IsRun words) →
       WritesLine middle new failed status answer → Prints old new (Says shows words text failed answer)
-  says_all stands before after None None new status answer cause h run w = w
-  says_all stands before after None (Some middle) new status answer cause h run w = absurd cc
-  says_all stands before after (Some old) None new status answer cause h run w = absurd (let e = h.1 in cc)
-  says_all stands before after (Some old) (Some middle) new status answer cause (first, is, says) run (inl (same, whole)) = (
+  says_all found w t before after None None new status answer cause h run line = line
+  says_all found w t before after None (Some middle) new status answer cause h run line = absurd cc
+  says_all found w t before after (Some old) None new status answer cause h run line = absurd (let e = h.1 in cc)
+  says_all found w t before after (Some old) (Some middle) new status answer cause (first, is, says) run (inl (same, whole)) = (
     first ++ last_line status,
     whole ∙ ap (λ (x : List ℕ). Some (x ++ last_line status)) (let e : middle ≡ old ++ first = cc in e) ∙ ap Some (append_assoc old first (last_line status)),
     rw same (says_whole status first says run),
   )
-  says_all stands before after (Some old) (Some middle) new status answer cause (first, is, says) run (inr (other, f, said, cut, part)) = (
+  says_all found w t before after (Some old) (Some middle) new status answer cause (first, is, says) run (inr (other, f, said, cut, part)) = (
     first ++ said,
     part ∙ ap (λ (x : List ℕ). Some (x ++ said)) (let e : middle ≡ old ++ first = cc in e) ∙ ap Some (append_assoc old first said),
-    rw other (says_cut stands before after status first said cause says run f cut),
+    rw other (says_cut found w t before after status first said cause says run f cut),
   )
 
 -- a count that rose later rose since an earlier moment

@@ -1,4 +1,4 @@
--- One option read from the front of the words that are left.
+-- One option read from the start of the words that are left.
 use Rattle.std.proofs.Common.{◌≡◌, ℕ, suc, ◌-◌, ◌≤◌, true, false, List, [], ◌∷◌, map, length, get_or, take, take_all, drop, Some, String, Global, string_bytes, refl, sym, ap, ◌∙◌, arith}
 use Rattle.std.specs.Prelude.{codes}
 use Rattle.std.specs.Str.{bytes_eq}

@@ -1,68 +1,122 @@
--- A session's journal while the lines of a script are issued to it.
-use Rattle.std.specs.Prelude.{◌≡◌, ◌≢◌, ℕ, ◌+◌, true, List, [], ◌∷◌, ◌++◌, length, Some, Result, IsErrOf}
-use Rattle.machine_law.specs.Kind.{fold}
-use Rattle.session_disk.specs.Moments.{Standing, Moment, IsAtRest, safe_file}
+-- A journal of a run while commands are issued to it, and what stands when it is synced.
+use Rattle.std.specs.Prelude.{◌≡◌, ◌≢◌, ℕ, ◌+◌, ◌-◌, ◌<◌, ◌≤◌, ◌^◌, true, List, [], ◌++◌, length, Option, None, Some, IsSome, Result, Ok, Err}
+use Rattle.machine_law.specs.Kind.{Kind, fold}
+use Rattle.machine_law.specs.declared.machine.Machine as machine
+use Rattle.session_disk.specs.declared.disk.SessionDisk as disk
+use Rattle.session_disk.specs.Causes.{Rose}
+use Rattle.session_disk.specs.Moments.{Standing, IsAtRest, IsNewestBelow, safe_file}
 use Rattle.session_disk.specs.Images.{as_it_reads}
+use Rattle.session_disk.specs.Histories.{History, Leaves}
 use Rattle.file_rotation.specs.Foreign.{is_foreign}
 use Rattle.file_rotation.specs.Recovery.{Recovers}
-use Rattle.log_writer.specs.Fresh.{fresh, frames}
-use Rattle.log_writer.specs.Account.{Account, Outcome, Becomes, Needs, opened, written}
-use Rattle.log_writer.specs.Journals.{Runs, IsReady}
+use Rattle.fresh_files.specs.Fresh.{fresh, frames}
+use Rattle.log_writer.specs.Account.{Account}
+use Rattle.log_writer.specs.Journals.{JournalRuns, IsReady}
+use Rattle.log_writer.specs.Log.{Log, log, KeepsForeign, IsLeft}
+use Rattle.log_writer.specs.declared.journal.Journal.{Journal}
 use Rattle.log_writer.specs.declared.journal.Present.{Present}
 use Rattle.log_writer.specs.declared.fault.JournalFault.{JournalFault}
 use Rattle.log_writer.specs.declared.fault.JournalFault.TheVariants as fault
-use Rattle.session_commands.specs.declared.command.SessionCommand.{SessionCommand}
-use Rattle.window_state.specs.States.{State}
-use Rattle.compactor.specs.SessionKind.{session_kind}
-use Rattle.session_drive.specs.TabLine.{issued}
-use Rattle.session_drive.specs.Words.{Options, limits_of}
+use Rattle.session_drive.specs.Course.{Course, Goes, TooLong, LastStamp, IsTied, course_of}
+use Rattle.session_drive.specs.Words.{Options, options}
 
--- where the journal of a run begins: how much may go into one file, the state to which the files read, and how many files
--- were made before
-pub record Beginning : Type 0 where
+-- where the journal of a run begins: how much may go into one file, the state to which the files read, the disk at entry
+-- and the greatest stamp on it
+pub record Beginning (S : Type 0) : Type 0 where
   pub options : Options
-  pub first : State
-  pub creates : ℕ
+  pub first : S
+  pub entry : History
+  pub greatest : Option ℕ
 
--- a run with these words begins so over this disk
-pub record Begins (words : List (List ℕ)) (m : Moment) (b : Beginning) : Type 0 where
-  pub options : limits_of words ≡ Some b.options
-  pub ready : IsReady session_kind m b.first
-  pub creates : b.creates ≡ m.creates
+-- why a list of commands stops, as its course says; the disk and memory may stop it anywhere
+abbrev pub Stops : {S C : Type 0} → Course S C → JournalFault → Type 0
+Stops course (fault.TooLong n) = course ≡ TooLong n
+Stops course (fault.LastStamp stamp) = course ≡ LastStamp
+Stops course (fault.AlreadyFailed first) = Unit {0}
+Stops course fault.Disk = Unit {0}
+Stops course fault.Memory = Unit {0}
 
--- an account after one command more, and after some; it stops where a file would be too long
-abbrev pub after_one : Options → SessionCommand → Outcome State SessionCommand → Outcome State SessionCommand
-after_one options command (Becomes a) = written session_kind options.every options.max_file a command
-after_one options command (Needs n) = Needs n
+module _ {S C : Type 0} (kind : Kind S C) where
+  -- a run begins so over this disk
+  pub record Begins (entry : History) (b : Beginning S) : Type 0 where
+    pub ready : IsReady kind entry.now b.first
+    pub entry_is : b.entry ≡ entry
+    pub newest : IsNewestBelow entry.now.standing None b.greatest
 
-abbrev pub after_all : Options → List SessionCommand → Outcome State SessionCommand → Outcome State SessionCommand
-after_all options [] outcome = outcome
-after_all options (command ∷ commands) outcome = after_all options commands (after_one options command outcome)
+  abbrev pub course : Beginning S → List C → Course S C
+  course b q = course_of kind b.options b.greatest b.first q
 
--- the account of these commands
-abbrev pub account_of : Beginning → List SessionCommand → Outcome State SessionCommand
-account_of b q = after_all b.options q (opened session_kind b.options.max_file b.first)
+  -- a crash since the entry left what is good for these commands, and every foreign file
+  abbrev pub LeftSince : Beginning S → History → List C → Type 0
+  LeftSince b now q = Leaves b.entry now (IsLeft kind b.entry.now b.first q)
 
--- the journal writes on, as the account of these commands says
-pub record Continues (b : Beginning) (m : Moment) (present : Present State) (pending : List ℕ) (q : List SessionCommand) : Type 0 where
-  pub account : Account State SessionCommand
-  pub is : account_of b q ≡ Becomes account
-  pub made : m.creates ≡ b.creates + account.made
-  pub runs : Runs session_kind m present pending account b.first q
+  -- the journal writes on, as the account of these commands says
+  pub record Continues (b : Beginning S) (now : History) (present : Present S) (pending : List ℕ) (q : List C) : Type 0 where
+    pub newest : IsNewestBelow b.entry.now.standing None b.greatest
+    pub account : Account S C
+    pub is : course b q ≡ Goes account
+    pub made : now.now.creates ≡ b.entry.now.creates + account.made
+    pub few : account.made ≤ length q + 1
+    pub tied : IsTied b.greatest account.made present.stamp
+    pub runs : JournalRuns kind now.now present pending account b.first q
+    pub left : LeftSince b now q
 
--- where a last stamp is refused, it has P
-abbrev pub NamesLast : {T : Type 0} → Result T JournalFault → (ℕ → Type 0) → Type 0
-NamesLast result P = (stamp : ℕ) → IsErrOf result (fault.LastStamp stamp) → P stamp
+  -- commands were stopped, these being all that were to be issued
+  pub record Ends (b : Beginning S) (now : History) (q : List C) (why : JournalFault) : Type 0 where
+    pub left : LeftSince b now q
+    pub stops : Stops (course b q) why
 
--- The disk is at rest and all commands of the script are told. One session file stands on it, beside foreign ones, with
--- the bytes that their account says, and so many files were made. The files read to the state after these commands.
-pub record HoldsCommands (b : Beginning) (m : Moment) (text : List ℕ) : Type 0 where
-  pub rest : IsAtRest m
-  pub told : m.told ≡ length (issued text)
-  pub account : Account State SessionCommand
-  pub is : account_of b (issued text) ≡ Becomes account
-  pub made : m.creates ≡ b.creates + account.made
-  pub stamp : ℕ
-  pub file : m.standing stamp ≡ Some (safe_file (fresh session_kind account.base ++ frames session_kind account.kept))
-  pub others : (s : ℕ) (other : Standing) → s ≢ stamp → m.standing s ≡ Some other → is_foreign other.bytes ≡ true
-  pub reads : Recovers session_kind (as_it_reads m) (fold session_kind b.first (issued text))
+  -- The disk is at rest and these commands are told. One file stands on it, under a stamp above all that stood at entry,
+  -- with the bytes that their account says, beside the foreign files of the entry and no others; and so many files were
+  -- made. The files read to the state after these commands.
+  pub record HoldsCommands (b : Beginning S) (now : History) (q : List C) : Type 0 where
+    pub rest : IsAtRest now.now
+    pub told : now.now.told ≡ length q
+    pub account : Account S C
+    pub is : course b q ≡ Goes account
+    pub made : now.now.creates ≡ b.entry.now.creates + account.made
+    pub stamp : ℕ
+    pub above : (s : ℕ) → IsSome (b.entry.now.standing s) → s < stamp
+    pub file : now.now.standing stamp ≡ Some (safe_file (fresh kind account.base ++ frames kind account.kept))
+    pub others : (s : ℕ) (other : Standing) → s ≢ stamp → now.now.standing s ≡ Some other → is_foreign other.bytes ≡ true
+    pub foreign : KeepsForeign b.entry.now (as_it_reads now.now)
+    pub reads : Recovers kind (as_it_reads now.now) (fold kind b.first q)
+
+-- On every disk: what n commands, issued to a journal that hasn't failed, make of it.
+module _ {S T : Type 0} where
+  abbrev pub LogIssues : ℕ → Log S → Log S → Result T JournalFault → Type 0
+  LogIssues n old new (Ok x) =
+      (new.failed ≡ None) × (old.present.count + n < 2 ^ 64 → new.present.count ≡ old.present.count + n)
+  LogIssues n old new (Err (fault.AlreadyFailed first)) = ⊥
+  LogIssues n old new (Err (fault.TooLong needed)) = old.limits.max_file < needed
+  LogIssues n old new (Err (fault.LastStamp stamp)) = stamp ≡ 2 ^ 63 - 1
+  LogIssues n old new (Err fault.Disk) = Rose old.failures new.failures
+  LogIssues n old new (Err fault.Memory) = Unit {0}
+
+module _ {M D S C : Type 0} {m : machine.Ghosts M S C} {d : disk.Ghosts D} where
+  abbrev pub IssueAnswers : {T : Type 0} → ℕ → Journal M D S C m d → Journal M D S C m d → Result T JournalFault → Type 0
+  IssueAnswers n old new result = LogIssues n (log old) (log new) result
+
+  -- the journal writes on after these commands
+  abbrev pub GoesOn : Beginning S → Journal M D S C m d → List C → Type 0
+  GoesOn b j q = Continues m.kind b (d.history j.disk) j.present j.pending.items q
+
+  -- After Ok the journal writes on after these commands; after a refusal they were stopped.
+  abbrev pub IssueEnds : {T : Type 0} → Beginning S → Journal M D S C m d → List C → Result T JournalFault → Type 0
+  IssueEnds b new q (Ok x) = GoesOn b new q
+  IssueEnds b new q (Err why) = Ends m.kind b (d.history new.disk) q why
+
+  -- What it is to issue more commands, on a modelled disk: wherever the run began, whatever was issued before, and in all
+  -- no more than any script has.
+  abbrev pub Issues : {T : Type 0} → List C → Journal M D S C m d → Journal M D S C m d → Result T JournalFault → Type 0
+  Issues more old new result = d.modelled → (b : Beginning S) (q : List C) → b.options ≡ options old.limits →
+      length (q ++ more) < 2 ^ 61 → GoesOn b old q → IssueEnds b new (q ++ more) result
+
+  -- all commands of a run, at whose end the journal is synced
+  abbrev pub RunEnds : {T : Type 0} → Beginning S → Journal M D S C m d → List C → Result T JournalFault → Type 0
+  RunEnds b new q (Ok x) = HoldsCommands m.kind b (d.history new.disk) q × LeftSince m.kind b (d.history new.disk) q
+  RunEnds b new q (Err why) = Ends m.kind b (d.history new.disk) q why
+
+  abbrev pub IssuesAll : {T : Type 0} → List C → Journal M D S C m d → Journal M D S C m d → Result T JournalFault → Type 0
+  IssuesAll all old new result = d.modelled → (b : Beginning S) → b.options ≡ options old.limits →
+      GoesOn b old [] → RunEnds b new all result

@@ -1,10 +1,11 @@
 pub mod Words
-pub mod Lines
-pub mod TabLine
+pub mod Issued
 pub mod Shown
+pub mod Course
 pub mod Issuing
-pub mod Script
-pub mod Written
 pub mod Outcome
+pub mod Printed
 pub mod Run
 pub mod Steps
+pub use Rattle.script_lines.specs.Lines
+pub use Rattle.script_lines.specs.TabLine

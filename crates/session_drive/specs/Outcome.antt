@@ -8,7 +8,7 @@ use Rattle.session_drive.specs.declared.status.Status.TheVariants.{Done, Usage, 
 use Rattle.session_drive.specs.declared.status.Long.{Long}
 use Rattle.session_drive.specs.declared.status.Why.TheVariants.{NotBuilt}
 use Rattle.session_drive.specs.declared.status.Long.TheVariants.{Script, File}
-use Rattle.session_drive.specs.TabLine.{issued, refused_line}
+use Rattle.session_drive.specs.Issued.{issued, refused_line}
 
 -- the process's exit code
 abbrev pub code : Status → ℕ
@@ -54,13 +54,13 @@ answer_of None commands = Done commands 0
 abbrev pub answer_to : List ℕ → Status
 answer_to text = answer_of (refused_line text) (length (issued text))
 
--- some front of what is to be said
-abbrev pub IsFront : List ℕ → List ℕ → Type 0
-IsFront said all = (n : ℕ) × (n ≤ length all) × (said ≡ take n all)
+-- some prefix of what is to be said
+abbrev pub IsPrefix : List ℕ → List ℕ → Type 0
+IsPrefix said all = (n : ℕ) × (n ≤ length all) × (said ≡ take n all)
 
--- all of it, or where the sink failed some front of it
+-- all of it, or where the sink failed some prefix of it
 abbrev pub IsSaid : Type 0 → List ℕ → List ℕ → Type 0
-IsSaid failed all said = (said ≡ all) ⊎ (failed × IsFront said all)
+IsSaid failed all said = (said ≡ all) ⊎ (failed × IsPrefix said all)
 
 -- the answer where the last line of this one couldn't be written
 abbrev pub unsaid : Status → Status

@@ -1,5 +1,5 @@
 -- The words of the command line: `run [--inline] [--every N] [--max-file N] FOLDER`, the options in any order.
-use Rattle.std.specs.Prelude.{ℕ, ◌^◌, Bool, true, false, not, ◌&&◌, ◌==◌, nat_lt, nat_le, List, [], ◌∷◌, Option, Some, None, option_and_then, unwrap_or, if◌then◌else◌, codes}
+use Rattle.std.specs.Prelude.{ℕ, ◌^◌, Bool, true, false, not, ◌&&◌, ◌==◌, nat_lt, nat_le, List, [], ◌∷◌, Option, Some, None, option_and_then, unwrap_or, if◌then◌else◌, codes, IsSome}
 use Rattle.std.specs.Str.{bytes_eq}
 use Rattle.decimals.specs.Decimal.{number_of}
 use Rattle.log_writer.specs.declared.limits.Limits.{Limits}
@@ -60,3 +60,11 @@ nothing_given = record { inline = false; every = None; max_file = None }
 abbrev pub limits_of : List (List ℕ) → Option Options
 limits_of [] = None
 limits_of (verb ∷ words) = if bytes_eq verb (codes "run") then options_behind nothing_given words else None
+
+-- the most bytes of a script
+abbrev pub script_max : ℕ
+script_max = 67108864
+
+-- the words are a run's
+abbrev pub IsRun : List (List ℕ) → Type 0
+IsRun words = IsSome (limits_of words)

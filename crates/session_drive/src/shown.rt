@@ -1,4 +1,5 @@
-//! How many windows and tabs a user sees of a state. Stands on window_state.
+//! How many windows and tabs a user sees of a state.
+//! A tab without pages isn't seen, nor is a window without such tabs.
 ghost use Rattle.std.specs.Prelude.{◌≡◌, ◌<◌, ◌^◌, IfOk};
 ghost use Rattle.session_drive.specs.Shown.{tab_count, Shows};
 
@@ -7,14 +8,14 @@ use window_state::{SessionState, ViewWindow, view};
 
 /// The windows and the tabs of a view.
 #[derive(Clone, Copy, Debug, PartialEq, Eq)]
-pub struct Counts {
+pub(crate) struct Counts {
     pub windows: u64,
     pub tabs: u64,
 }
 
 /// What is shown of a state. It takes the time and memory of its view.
 #[tactic(auto, using(crate::proofs::ShownLaws::few_tabs))]
-pub fn shown_counts(alloc: Global, state: &SessionState) -> Result<Counts, AllocError>
+pub(crate) fn shown_counts(alloc: Global, state: &SessionState) -> Result<Counts, AllocError>
     ensures { IfOk result (λ counts. Shows state.now counts.windows counts.tabs) }
 {
     state.known();

@@ -128,7 +128,7 @@ fn family_name(family: Family) -> &'static str
 }
 
 /// The line of a start with these many windows and tabs, with its line feed.
-pub fn start_line(alloc: Global, windows: u64, tabs: u64) -> Result<String, AllocError>
+pub(crate) fn start_line(alloc: Global, windows: u64, tabs: u64) -> Result<String, AllocError>
     ensures { IfOk result (λ line. string_bytes line ≡ start_line windows tabs) }
 {
     format!(in alloc; "start {windows} {tabs} 0\n")

@@ -17,7 +17,7 @@ const MAX_FILE: u64 = 4_294_967_296;
 
 /// What the options so far have given.
 #[derive(Clone, Copy, Debug, PartialEq, Eq)]
-pub struct Given {
+pub(crate) struct Given {
     pub inline: bool,
     pub every: Option<u64>,
     pub max_file: Option<u64>,
@@ -25,7 +25,7 @@ pub struct Given {
 
 /// The limits that the words ask for, 250 commands and 4 GiB where they name none. None exactly where the words
 /// aren't in the grammar. It takes no memory.
-pub fn read_words(words: &[String]) -> Option<Limits>
+pub(crate) fn read_words(words: &[String]) -> Option<Limits>
     ensures { limits_of (map string_bytes words.now) ≡ option_map options result }
 {
     match words {

@@ -1,26 +1,45 @@
-use Rattle.std.proofs.Common.{[]}
-use Rattle.session_disk.proofs.Leaves.{Leaves-trans}
-use Rattle.session_drive.specs.TabLine.{issued}
-use Rattle.session_drive.proofs.IssuingLaws.{told_all, sync_holds}
+use Rattle.std.proofs.Common.{[], ◌++◌, ◌<◌, ◌^◌, ℕ, Option, Result, length, arith}
+use Rattle.log_writer.specs.Log.{log}
+use Rattle.log_writer.specs.declared.fault.JournalFault.{JournalFault}
+use Rattle.session_drive.specs.Issued.{issued}
+use Rattle.session_drive.specs.Issuing.{IssueAnswers, RunEnds}
+use Rattle.session_drive.proofs.LineLaws.{length_issued}
+use Rattle.session_drive.proofs.IssueLaws.{refused_as, later_then, answers_since, answers_refused, sync_refused, sync_tells}
+use Rattle.log_writer.specs.Answers.{sync_call}
 use Rattle.session_drive.proofs.issuing.issue_script.Goals as goal
 
-pub returns-in-Err-clause-crash : goal.returns-in-Err-clause-crash
-returns-in-Err-clause-crash g c = λ tells b limits on. c.issue_lines.ensures.crash tells b [] limits on
+pub returns-in_err-refused-clause-answers : goal.returns-in_err-refused-clause-answers
+returns-in_err-refused-clause-answers g c =
+    refused_as (λ (r : Result (Option ℕ) JournalFault). IssueAnswers (length (issued c.args.text.now)) c.args.journal.now c.issue_lines.new.journal r) c.from_residual.result _ c.from_residual.ensures.1
+    c.in_err-refused.ensures.answers
 
-pub returns-in-Ok-sync-clause-done : goal.returns-in-Ok-sync-clause-done
-returns-in-Ok-sync-clause-done g c = λ tells b limits on.
-    let on_now = c.in-Ok.ensures.runs tells b [] limits on in
-    sync_holds b _ _ _ _ _ _ c.args.text.now c.requires.short on_now
-    (c.in-Ok-sync.ensures.ok tells c.in-Ok.ensures.works b.first (issued c.args.text.now) on_now.account on_now.runs)
-    (c.in-Ok-sync.ensures.at_rest tells c.in-Ok.ensures.works b.first (issued c.args.text.now) on_now.account on_now.runs)
-    (told_all c.issue_lines.new.journal.present c.sync.new.self.present c.in-Ok-sync.ensures.told)
+pub returns-in_err-refused-clause-issues : goal.returns-in_err-refused-clause-issues
+returns-in_err-refused-clause-issues g c = λ modelled b limits on.
+    let few : length ([] ++ issued c.args.text.now) < 2 ^ 61 = omega (arith, c.requires.short, length_issued c.args.text.now) in
+    refused_as (λ (r : Result (Option ℕ) JournalFault). RunEnds b c.issue_lines.new.journal (issued c.args.text.now) r) c.from_residual.result _ c.from_residual.ensures.1
+    (c.in_err-refused.ensures.issues modelled b [] limits few on)
 
-pub returns-in-Ok-sync-clause-crash : goal.returns-in-Ok-sync-clause-crash
-returns-in-Ok-sync-clause-crash g c = λ tells b limits on.
-    let on_now = c.in-Ok.ensures.runs tells b [] limits on in
-    Leaves-trans (c.issue_lines.ensures.crash tells b [] limits on) (c.sync.ensures.crash tells c.in-Ok.ensures.works b.first (issued c.args.text.now) on_now.account on_now.runs)
+pub returns-in_err-sync-clause-later : goal.returns-in_err-sync-clause-later
+returns-in_err-sync-clause-later g c = later_then _ _ _ c.issue_lines.ensures.later c.sync.ensures.later
 
-pub returns-in-Err-sync-clause-crash : goal.returns-in-Err-sync-clause-crash
-returns-in-Err-sync-clause-crash g c = λ tells b limits on.
-    let on_now = c.in-Ok.ensures.runs tells b [] limits on in
-    Leaves-trans (c.issue_lines.ensures.crash tells b [] limits on) (c.sync.ensures.crash tells c.in-Ok.ensures.works b.first (issued c.args.text.now) on_now.account on_now.runs)
+pub returns-in_err-sync-clause-answers : goal.returns-in_err-sync-clause-answers
+returns-in_err-sync-clause-answers g c =
+    refused_as (λ (r : Result (Option ℕ) JournalFault). IssueAnswers (length (issued c.args.text.now)) c.args.journal.now c.sync.new.self r) c.from_residual-in_err-sync.result _ c.from_residual-in_err-sync.ensures.1
+    (answers_since (Option ℕ) 0 (length (issued c.args.text.now)) (log c.args.journal.now) (log c.issue_lines.new.journal) (log c.sync.new.self) _ c.issue_lines.ensures.later
+    (answers_refused (Option ℕ) sync_call 0 (log c.issue_lines.new.journal) (log c.sync.new.self) _ c.in_ok-refused.ensures.answers.0 c.in_err-sync.ensures.answers))
+
+pub returns-in_err-sync-clause-issues : goal.returns-in_err-sync-clause-issues
+returns-in_err-sync-clause-issues g c = λ modelled b limits on.
+    let few : length ([] ++ issued c.args.text.now) < 2 ^ 61 = omega (arith, c.requires.short, length_issued c.args.text.now) in
+    refused_as (λ (r : Result (Option ℕ) JournalFault). RunEnds b c.sync.new.self (issued c.args.text.now) r) c.from_residual-in_err-sync.result _ c.from_residual-in_err-sync.ensures.1
+    (sync_refused c.issue_lines.new.journal c.sync.new.self b (issued c.args.text.now) _ modelled c.in_ok-refused.ensures.answers.0 (c.in_ok-refused.ensures.issues modelled b [] limits few on) c.in_err-sync.ensures.answers c.sync.ensures.crash)
+
+pub returns-clause-later : goal.returns-clause-later
+returns-clause-later g c = later_then _ _ _ c.issue_lines.ensures.later c.sync.ensures.later
+
+pub returns-clause-issues : goal.returns-clause-issues
+returns-clause-issues g c = λ modelled b limits on.
+    let few : length ([] ++ issued c.args.text.now) < 2 ^ 61 = omega (arith, c.requires.short, length_issued c.args.text.now) in
+    let unit : Unit {0} = tt in
+    sync_tells c.issue_lines.new.journal c.sync.new.self unit b (issued c.args.text.now) modelled c.in_ok-refused.ensures.answers.0 few (c.in_ok-refused.ensures.issues modelled b [] limits few on) c.in_ok-sync.ensures.told
+    c.in_ok-sync.ensures.follows c.in_ok-sync.ensures.at_rest c.sync.ensures.crash

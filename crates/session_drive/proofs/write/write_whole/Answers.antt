@@ -1,6 +1,0 @@
-use Rattle.session_drive.proofs.StreamLaws.{written_failed}
-use Rattle.session_drive.proofs.write.write_whole.Goals as goal
-
-pub returns-in-Err-clause-bytes : goal.returns-in-Err-clause-bytes
-returns-in-Err-clause-bytes g c =
-    written_failed (g.K.Sink.written c.args.out.now) (g.K.Sink.written c.loop-rest.out) _ c.args.bytes.now c.loop-rest.rest.now c.in-Err.failed c.loop-rest.invariant.written c.in-Err.ensures.bytes

@@ -1,9 +1,0 @@
--- What writing all of some bytes adds to a sink.
-use Rattle.std.specs.Prelude.{◌≡◌, ℕ, ◌≤◌, List, ◌++◌, length, take, Option, None, Some, Result, Ok, Err}
-use Rattle.session_disk.specs.declared.failure.Failed.{Failed}
-
--- all of them after Ok, some front of them after a failure
-abbrev pub WritesWhole : {T : Type 0} → Option (List ℕ) → Option (List ℕ) → List ℕ → Result T Failed → Type 0
-WritesWhole None new bytes result = new ≡ None
-WritesWhole (Some before) new bytes (Ok x) = new ≡ Some (before ++ bytes)
-WritesWhole (Some before) new bytes (Err e) = (n : ℕ) × (n ≤ length bytes) × (new ≡ Some (before ++ take n bytes))

@@ -1,0 +1,30 @@
+//! One run of a script over the journal of a session: the words, the script, the commands of its lines, and what is
+//! printed. The outside comes in as values.
+//!
+//! ```
+//! let mut words = Vec::new(alloc);
+//! words.push(String::from_str(alloc, "run")?)?;
+//! words.push(String::from_str(alloc, "folder")?)?;
+//! let mut script = MemorySource::new(alloc, b"tab 1 2\n", &[])?;
+//! let mut out = MemorySink::new(alloc, &[])?;
+//! let (status, _, _) = drive_inline(
+//!     alloc,
+//!     &words,
+//!     &mut script,
+//!     &mut out,
+//!     MemoryDisk::empty(alloc)?,
+//!     MemoryDisk::empty(alloc)?,
+//!     &mut FixedClock::new(100),
+//! );
+//! assert_eq!(rt; status.code(), 0);
+//! ```
+#![tactic(auto)]
+
+mod drive;
+mod issuing;
+mod shown;
+mod status;
+mod words;
+
+pub use drive::drive_inline;
+pub use status::{Long, Status, Why};
