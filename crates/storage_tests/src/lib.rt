@@ -1,25 +1,13 @@
-//! Tests of what keeps a session on a disk: disks, the choice of a file, and the journal. A crate with tests is proved
-//! twice, so they stand apart from the crates that they test.
+//! Tests of what keeps a session on a disk, where a case as text can't say it: real folders, clocks and streams, and
+//! faults that no case can meet. All other cases are text, in `storage_cases`.
 #![tactic(auto)]
 
 #[cfg(test)]
-mod choices;
-#[cfg(test)]
 mod clocks;
 #[cfg(test)]
-mod crashes;
-#[cfg(test)]
-mod cuts;
-#[cfg(test)]
-mod disks;
-#[cfg(test)]
-mod failures;
+mod faults;
 #[cfg(test)]
 mod folders;
-#[cfg(test)]
-mod journals;
-#[cfg(test)]
-mod names;
 #[cfg(test)]
 mod real_journals;
 #[cfg(test)]

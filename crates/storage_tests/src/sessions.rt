@@ -1,11 +1,11 @@
 //! Sessions of tabs in one window, over disks, for tests.
-ghost use Rattle.session_commands.specs.Table.{IsSound};
+ghost use Rattle.compactor.specs.session.SessionKind.{IsCommand};
 
 use compactor::SessionMachine;
 use file_rotation::recover;
 use log_writer::{Journal, JournalFault, Limits};
 use session_commands::SessionCommand;
-use session_disk::{FixedClock, MemoryDisk, SessionDisk};
+use session_disk::{FixedClock, SessionDisk};
 use std::alloc::Global;
 use std::test::Fail;
 use window_state::SessionState;
@@ -15,9 +15,11 @@ pub(crate) type SessionJournal<D> = Journal<SessionMachine, D>;
 
 /// A tab in window 1.
 pub(crate) fn tab(tab: i32) -> SessionCommand
-    ensures sound { IsSound result }
+    ensures { IsCommand result }
 {
-    SessionCommand::TabWindow { window: 1, tab }
+    let command = SessionCommand::TabWindow { window: 1, tab };
+    command.known_in_range();
+    command
 }
 
 /// A file of header, marker and the tab 2 in window 1.
@@ -28,20 +30,6 @@ pub(crate) const ONE_TAB: [u8; 22] = [
 /// The state to which a disk reads.
 pub(crate) fn state_on<D: SessionDisk>(alloc: Global, disk: &mut D) -> Result<SessionState, Fail> {
     Ok(recover::<SessionMachine, D>(alloc, disk)?.state)
-}
-
-/// How many tabs a disk reads to, where these are the tabs from 1 on.
-pub(crate) fn tabs_on<D: SessionDisk>(alloc: Global, disk: &mut D) -> Result<u64, Fail> {
-    let state = state_on(alloc, disk)?;
-    for (before, tab) in (1..100).enumerate() {
-        if state.tabs().get(tab).is_none() {
-            if state.tabs().len() != before {
-                return Err("there is another tab".into());
-            }
-            return Ok(before as u64);
-        }
-    }
-    Err("there are too many tabs".into())
 }
 
 /// A journal over a disk, with a clock that stands at 100.
@@ -64,11 +52,8 @@ pub(crate) enum Call {
     Compact,
 }
 
-/// Makes one call of a journal.
-pub(crate) fn make<D: SessionDisk>(
-    journal: &mut SessionJournal<D>,
-    call: Call,
-) -> Result<(), JournalFault> {
+// Makes one call of a journal.
+fn make<D: SessionDisk>(journal: &mut SessionJournal<D>, call: Call) -> Result<(), JournalFault> {
     let mut clock = FixedClock::new(100);
     match call {
         Call::Tab(id) => journal
@@ -88,15 +73,4 @@ pub(crate) fn make_all<D: SessionDisk>(
         make(journal, *next)?;
     }
     Ok(())
-}
-
-/// A disk in memory after calls of a journal that all succeed.
-pub(crate) fn disk_after(
-    alloc: Global,
-    limits: Limits,
-    calls: &[Call],
-) -> Result<MemoryDisk, Fail> {
-    let mut journal = opened(alloc, MemoryDisk::empty(alloc)?, limits)?;
-    make_all(&mut journal, calls)?;
-    Ok(journal.close())
 }

@@ -1,29 +1,6 @@
-//! Tests of what gives input and takes output.
-use session_disk::{Failed, MemorySink, MemorySource, Sink, Source, StdSink, StdSource};
+//! A test of the adapters over the standard library's readers and writers.
+use session_disk::{Failed, Sink, Source, StdSink, StdSource};
 use std::test::Fail;
-
-#[test]
-fn a_source_gives_its_bytes_and_fails_where_asked(rt: HostRuntime) -> Result<(), Fail> {
-    let mut source = MemorySource::new(rt.alloc(), b"abc", &[2])?;
-    let mut piece = [0u8; 2];
-    assert_eq!(rt; source.read(&mut piece), Ok(2));
-    assert_eq!(rt; piece, *b"ab");
-    assert_eq!(rt; source.read(&mut piece), Err(Failed));
-    assert_eq!(rt; source.read(&mut piece), Ok(1));
-    assert_eq!(rt; piece, *b"cb");
-    assert_eq!(rt; source.read(&mut piece), Ok(0));
-    Ok(())
-}
-
-#[test]
-fn a_sink_keeps_what_is_written_and_fails_where_asked(rt: HostRuntime) -> Result<(), Fail> {
-    let mut sink = MemorySink::new(rt.alloc(), &[2])?;
-    assert_eq!(rt; sink.write(b"ab"), Ok(2));
-    assert_eq!(rt; sink.write(b"no"), Err(Failed));
-    assert_eq!(rt; sink.write(b"c"), Ok(1));
-    assert_eq!(rt; sink.written(), b"abc".as_slice());
-    Ok(())
-}
 
 #[test]
 fn readers_and_writers_are_adapted(rt: HostRuntime) -> Result<(), Fail> {

@@ -1,10 +1,10 @@
 use Rattle.std.proofs.Common.{◌≡◌}
 use Rattle.session_disk.specs.Moments.{IsAtRest}
 use Rattle.session_disk.specs.MemoryDisks.{history_of}
-use Rattle.storage_tests.proofs.disks.resting.Given as goal
+use Rattle.storage_cases.proofs.resting.resting.Given as goal
 
-abbrev pub invariant-loop-stamp : goal.invariant-loop-stamp
-invariant-loop-stamp l = record {
+abbrev pub invariant-loop-file : goal.invariant-loop-file
+invariant-loop-file l = record {
   at_rest : IsAtRest (history_of l.disk).now;
   untold : (history_of l.disk).now.told ≡ 0;
 }
