@@ -1,0 +1,92 @@
+//! What a run finds, by steps that stand before it:
+//!
+//! - `clock N`: where the clock stands from here on, at 100 where no step says
+//! - `> LINE`: a line of the script
+//! - `each FIRST LAST LINE`: a line for each number, in the place of %
+//! - `script BYTES`: bytes of the script, which need not end a line
+//! - `fail FAILURE, ..`: calls of the disk that fail, as `plans.rt` has them
+//! - `source failing N N ..`, `sink failing N N ..`: reads of the source and writes of the sink that fail
+
+use crate::bytes::plain_bytes;
+use crate::fault::CaseFault;
+use crate::numbers::{number, numbers};
+use crate::plans::read_failures;
+use session_disk::Failure;
+use std::alloc::Global;
+
+#[derive(Drop)]
+pub(crate) struct Setting {
+    pub(crate) clock: u64,
+    pub(crate) script: Vec<u8>,
+    pub(crate) failures: Vec<Failure>,
+    pub(crate) failing_reads: Vec<u64>,
+    pub(crate) failing_writes: Vec<u64>,
+}
+
+impl Setting {
+    /// An empty script, and no failures.
+    pub(crate) fn new(alloc: Global, clock: u64) -> Setting {
+        Setting {
+            clock,
+            script: Vec::new(alloc),
+            failures: Vec::new(alloc),
+            failing_reads: Vec::new(alloc),
+            failing_writes: Vec::new(alloc),
+        }
+    }
+
+    /// Takes a step, and answers whether it is such a one.
+    pub(crate) fn takes(
+        &mut self,
+        alloc: Global,
+        verb: &str,
+        rest: &str,
+    ) -> Result<bool, CaseFault> {
+        match verb {
+            "clock" => self.clock = number(rest)?,
+            ">" => self.put_line(alloc, rest)?,
+            "each" => self.put_each(alloc, rest)?,
+            "script" => self.put_bytes(alloc, rest)?,
+            "fail" => self.failures = read_failures(alloc, rest)?,
+            "source" => self.failing_reads = failing(alloc, rest)?,
+            "sink" => self.failing_writes = failing(alloc, rest)?,
+            _ => return Ok(false),
+        }
+        Ok(true)
+    }
+
+    fn put_bytes(&mut self, alloc: Global, text: &str) -> Result<(), CaseFault> {
+        let bytes = plain_bytes(alloc, text)?;
+        Ok(self.script.extend_from_slice(bytes.as_slice())?)
+    }
+
+    fn put_line(&mut self, alloc: Global, text: &str) -> Result<(), CaseFault> {
+        self.put_bytes(alloc, text)?;
+        Ok(self.script.push(b'\n')?)
+    }
+
+    fn put_each(&mut self, alloc: Global, text: &str) -> Result<(), CaseFault> {
+        let Some((first, rest)) = text.split_once(' ') else {
+            return Err(CaseFault::Malformed("two numbers and a line are wanted"));
+        };
+        let Some((last, line)) = rest.split_once(' ') else {
+            return Err(CaseFault::Malformed("two numbers and a line are wanted"));
+        };
+        let Some((before, after)) = line.split_once('%') else {
+            return Err(CaseFault::Malformed("a line with % is wanted"));
+        };
+        for number in number(first)?..number(last)?.min(100_000).saturating_add(1) {
+            let line = format!(in alloc; "{before}{number}{after}")?;
+            self.put_line(alloc, line.as_str())?;
+        }
+        Ok(())
+    }
+}
+
+// The calls of a source or a sink that fail.
+fn failing(alloc: Global, text: &str) -> Result<Vec<u64>, CaseFault> {
+    match text.strip_prefix("failing ") {
+        Some(calls) => numbers(alloc, calls),
+        None => Err(CaseFault::Malformed("failing and its calls are wanted")),
+    }
+}
