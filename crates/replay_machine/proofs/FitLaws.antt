@@ -3,7 +3,8 @@ use Rattle.std.proofs.Common.{◌≡◌, ℕ, ℤ, List, subst, arith}
 use Rattle.session_commands.specs.declared.command.SessionCommand.{SessionCommand}
 use Rattle.session_commands.specs.declared.command.SessionCommand.TheVariants.{Extension, WindowApp, SessionStorage, Workspace, TabGuid, UserAgent, UserTitle, TabExtra, WindowExtra}
 use Rattle.session_commands.specs.Table.{IsSound}
-use Rattle.window_state.specs.Fits.{FitsText, FitsRest, FitsPair}
+use Rattle.tab_pages.specs.Fits.{FitsText, FitsRest}
+use Rattle.window_state.specs.Fits.{FitsPair}
 
 pub fits_extension : (command : SessionCommand) (tab : ℤ) (text tail : List ℕ) → command ≡ Extension tab text tail → IsSound command → FitsText text
 fits_extension command tab text tail is sound = let s = subst IsSound is sound in omega (arith, s.1)

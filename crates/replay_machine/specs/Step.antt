@@ -5,8 +5,8 @@ use Rattle.std.specs.Prelude.{ℕ, Bool, List, [], ◌∷◌, Option, Some, None
 use Rattle.session_commands.specs.declared.command.SessionCommand.{SessionCommand}
 use Rattle.session_commands.specs.declared.command.SessionCommand.TheVariants.{UpdateNavigation, GroupData, Extension, WindowApp, SessionStorage, Workspace, TabGuid, UserAgent, UserTitle, TabExtra, WindowExtra, TabWindow, TabIndex, PrunedBack, SelectNavigation, SelectTab, WindowKind, PrunedFront, Pinned, WindowBounds, TabClosed, WindowClosed, ActiveWindow, LastActive, Pruned, TabGroup, AllWorkspaces, Raw}
 use Rattle.window_state.specs.declared.group_id.GroupId.{GroupId}
-use Rattle.window_state.specs.PageLists.{prune_back}
-use Rattle.window_state.specs.Changes.{put_page, front_pruned, range_pruned, set_pair}
+use Rattle.tab_pages.specs.PageLists.{prune_back, put_page}
+use Rattle.window_state.specs.Changes.{front_pruned, range_pruned, set_pair}
 use Rattle.window_state.specs.States.{State, on_tab, on_window, placed, with_group, with_active, tab_closed, window_closed}
 
 abbrev pub group_where : ℕ → ℕ → Bool → Option GroupId

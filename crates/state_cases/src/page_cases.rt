@@ -5,7 +5,7 @@ use crate::words::Words;
 use navigation_entry::Navigation;
 use pickle_cells::{Blob, Text16};
 use std::alloc::{AllocError, Global};
-use window_state::Pages;
+use tab_pages::Pages;
 
 /// The index and the URL of each page that is left.
 pub(crate) fn pages(alloc: Global, lines: &[Words<'_>]) -> Result<String, CaseFault> {

@@ -7,12 +7,12 @@ use Rattle.window_state.specs.declared.change.TabChange.{TabChange}
 use Rattle.window_state.specs.declared.change.TabChange.TheVariants as tab
 use Rattle.window_state.specs.declared.change.WindowChange.{WindowChange}
 use Rattle.window_state.specs.declared.change.WindowChange.TheVariants as window
-use Rattle.window_state.specs.PageLists.{IsRising, prune, prune_back, prune_front}
+use Rattle.tab_pages.specs.PageLists.{IsRising, prune, prune_back, prune_front, put_page}
 use Rattle.window_state.specs.Keys.{tab_key, window_key}
-use Rattle.window_state.specs.Changes.{new_tab, new_window, changed_tab, changed_window, current_front, current_pruned, put_page}
+use Rattle.window_state.specs.Changes.{new_tab, new_window, changed_tab, changed_window, current_front, current_pruned}
 use Rattle.window_state.specs.Fits.{IsKeptTab, IsKeptWindow, TabChangeFits, WindowChangeFits}
 use Rattle.window_state.proofs.ExtraLaws.{fits-set, distinct-set, distinct-none}
-use Rattle.window_state.proofs.PageLaws.{rising-filter, rising-prune, rising-prune_front, rising-put_page}
+use Rattle.tab_pages.proofs.PageLaws.{rising-filter, rising-prune, rising-prune_front, rising-put_page}
 
 -- what is known of a tab stays, wherever it stands and whatever pages it has
 pub moved-tab : (t : Tab) (window : Option ℤ) (index current : ℤ) (pages : List (ℤ × Navigation)) → IsRising (pos 0) pages → IsKeptTab t

@@ -1,4 +1,3 @@
-pub mod PageLaws
 pub mod ExtraLaws
 pub mod RowLaws
 pub mod FindLaws
@@ -7,9 +6,8 @@ pub mod StateLaws
 pub mod PairLaws
 pub mod MemberLaws
 pub mod RangeLaws
-pub mod PositionLaws
 pub mod ShownLaws
 pub mod WindowRange
 pub mod ViewLaws
-mod WorkedPrunings
+mod WorkedChanges
 mod WorkedViews

@@ -17,7 +17,8 @@ use Rattle.window_state.specs.declared.shown.Shown.{Shown}
 use Rattle.window_state.specs.declared.tab.Tab.{Tab}
 use Rattle.window_state.specs.Keys.{tab_key}
 use Rattle.window_state.specs.States.{is_in}
-use Rattle.window_state.specs.Views.{has_page, is_shown_in, place_cmp, insert_by_place, shown_tabs}
+use Rattle.tab_pages.specs.PageLists.{has_page}
+use Rattle.window_state.specs.Views.{is_shown_in, place_cmp, insert_by_place, shown_tabs}
 use Rattle.window_state.specs.Shown.{place_order, place_in, put_in, put_shown, entries_in, entries_of, tabs_in}
 
 pub place_order_total : IsTotalOrder place_order

@@ -9,6 +9,7 @@ use Rattle.std.specs.Ordering.{int_cmp, int_eq}
 use Rattle.std.specs.List.{AllByRecursion}
 use Rattle.window_state.specs.declared.tab.Tab.{Tab}
 use Rattle.window_state.specs.declared.window.Window.{Window}
+use Rattle.tab_pages.proofs.RangeLaws.{all-filter}
 use Rattle.window_state.specs.Limits.{limit}
 use Rattle.window_state.specs.RowLists.{step_row, without_row}
 use Rattle.window_state.specs.Keys.{tab_key, window_key}
@@ -100,10 +101,6 @@ kept-tab_closed id s k =
 length-filter : {X : Type 0} (p : X → Bool) (xs : List X) → length (filter p xs) ≤ length xs
 length-filter p [] = omega arith
 length-filter p (x ∷ xs) = let rest = length-filter p xs in elim (p x) as (λ b. length (cond b (x ∷ filter p xs) (filter p xs)) ≤ length (x ∷ xs)) [ true ↦ omega arith | false ↦ omega arith ]
-
-all-filter : {X : Type 0} (P : X → Type 0) (p : X → Bool) (xs : List X) → AllByRecursion P xs → AllByRecursion P (filter p xs)
-all-filter P p [] all = tt
-all-filter P p (x ∷ xs) all = let rest = all-filter P p xs all.1 in elim (p x) as (λ b. AllByRecursion P (cond b (x ∷ filter p xs) (filter p xs))) [ true ↦ (all.0, rest) | false ↦ rest ]
 
 apart : (own id : ℤ) → int_eq own id ≡ false → own ≢ id
 apart own id differs same = let equal : int_eq own id ≡ true = rw (same, itself id) refl in true≢false (sym equal ∙ differs)

@@ -1,9 +1,10 @@
 -- Views of small states, as the definition computes them.
 use Rattle.std.proofs.Common.{◌≡◌, pos, negsuc, [], ◌∷◌, Some, None, refl}
 use Rattle.navigation_entry.specs.declared.navigation.Navigation.{Navigation}
+use Rattle.tab_pages.specs.Positions.{first_from}
 use Rattle.window_state.specs.Changes.{new_tab, new_window}
 use Rattle.window_state.specs.States.{start}
-use Rattle.window_state.specs.Views.{view, first_from}
+use Rattle.window_state.specs.Views.{view}
 
 -- a tab without pages isn't shown, and the least window is active
 one_shown : (n : Navigation) → view (record start { tabs = record (new_tab (pos 5)) { window = Some (pos 1); pages = (pos 0, n) ∷ [] } ∷ record (new_tab (pos 6)) { window = Some (pos 1) } ∷ []; windows = new_window (pos 1) ∷ [] })

@@ -1,12 +1,9 @@
 -- What a tab and a window are when they are made, and what each change makes of them.
 use Rattle.std.specs.Prelude.{ℕ, ℤ, pos, negsuc, ◌-ℤ◌, int_lt, false, ◌&&◌, if◌then◌else◌, List, [], nat_eq, Some, None}
 use Rattle.std.specs.Int.{int_max}
-use Rattle.std.specs.Ordering.{int_cmp}
-use Rattle.std.specs.BTreeMap.{insert_entry}
 use Rattle.std.specs.Cmp.Lexicographic.{pointwise}
 use Rattle.indexmap.specs.IndexMap as pairs
-use Rattle.navigation_entry.specs.declared.navigation.Navigation.{Navigation}
-use Rattle.window_state.specs.PageLists.{is_natural, is_positive, is_pruned, prune, prune_back, prune_front}
+use Rattle.tab_pages.specs.PageLists.{is_natural, is_positive, is_pruned, prune, prune_back, prune_front, put_page}
 use Rattle.window_state.specs.declared.tab.Tab.{Tab}
 use Rattle.window_state.specs.declared.window.Window.{Window}
 use Rattle.window_state.specs.declared.change.TabChange.{TabChange}
@@ -50,10 +47,6 @@ new_window id = record {
   };
   selected = negsuc 0;
 }
-
--- a page at an index that isn't negative takes the place of the one there, or is put in
-abbrev pub put_page : ℤ → Navigation → List (ℤ × Navigation) → List (ℤ × Navigation)
-put_page index navigation pages = if is_natural index then insert_entry int_cmp pages index navigation else pages
 
 -- the current index when pages at the front go
 abbrev pub current_front : ℤ → ℤ → ℤ

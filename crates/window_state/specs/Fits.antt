@@ -1,26 +1,18 @@
 -- What every tab and every window keep: the payloads of their commands can hold their texts, a tab's pages stand by
 -- rising index, and no extra key stands twice. And which changes keep that.
-use Rattle.std.specs.Prelude.{◌≡◌, ℕ, ◌+◌, ◌%◌, ◌≤◌, pos, List, length, nat_eq, IfSome}
+use Rattle.std.specs.Prelude.{ℕ, ◌+◌, ◌≤◌, pos, List, length, nat_eq, IfSome}
 use Rattle.std.specs.List.{AllByRecursion, IsDistinct}
 use Rattle.std.specs.Map.{keys_of}
 use Rattle.std.specs.Cmp.Lexicographic.{pointwise}
 use Rattle.pickle_cells.specs.Cell.{string_size}
-use Rattle.window_state.specs.Limits.{payload_limit}
-use Rattle.window_state.specs.PageLists.{IsRising}
+use Rattle.tab_pages.specs.PageLists.{IsRising}
+use Rattle.tab_pages.specs.Fits.{payload_limit, FitsText, FitsRest}
 use Rattle.window_state.specs.declared.tab.Tab.{Tab}
 use Rattle.window_state.specs.declared.window.Window.{Window}
 use Rattle.window_state.specs.declared.change.TabChange.{TabChange}
 use Rattle.window_state.specs.declared.change.TabChange.TheVariants as tab
 use Rattle.window_state.specs.declared.change.WindowChange.{WindowChange}
 use Rattle.window_state.specs.declared.change.WindowChange.TheVariants as window
-
--- a number and a text
-abbrev pub FitsText : List ℕ → Type 0
-FitsText text = 8 + string_size (length text) ≤ payload_limit
-
--- a number and whole words behind it
-abbrev pub FitsRest : List ℕ → Type 0
-FitsRest rest = (length rest % 4 ≡ 0) × (8 + length rest ≤ payload_limit)
 
 -- a number, a key and its value
 abbrev pub FitsPair : List ℕ × List ℕ → Type 0

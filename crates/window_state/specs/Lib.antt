@@ -1,5 +1,4 @@
 pub mod Limits
-pub mod PageLists
 pub mod RowLists
 pub mod Keys
 pub mod KeyLaws
@@ -10,4 +9,7 @@ pub mod States
 pub mod Members
 pub mod Views
 pub mod Shown
-pub use Rattle.pickle_cells.specs.Cell
+pub use Rattle.tab_pages.specs.PageLists
+pub use Rattle.tab_pages.specs.Positions
+pub use Rattle.tab_pages.specs.Ranges as PageRanges
+pub use Rattle.tab_pages.specs.Fits as TextFits

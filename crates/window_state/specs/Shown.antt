@@ -9,7 +9,7 @@ use Rattle.std.specs.Map.Iter.{deref}
 use Rattle.window_state.specs.declared.shown.Place.{Place}
 use Rattle.window_state.specs.declared.shown.Shown.{Shown}
 use Rattle.window_state.specs.declared.tab.Tab.{Tab}
-use Rattle.window_state.specs.Views.{has_page}
+use Rattle.tab_pages.specs.PageLists.{has_page}
 use denote.Ref.{Bor}
 
 abbrev pub place_order : Place → Place → Ordering

@@ -12,7 +12,8 @@ use Rattle.window_state.specs.RowLists.{find_row, put_row, step_row, without_row
 use Rattle.window_state.specs.Keys.{tab_key, window_key, group_key, group_cmp}
 use Rattle.window_state.specs.Changes.{new_tab, new_window}
 use Rattle.window_state.specs.Fits.{IsKeptTab, IsKeptWindow}
-use Rattle.window_state.specs.Ranges.{IsTabInRange, IsWindowInRange, IsGroupInRange}
+use Rattle.tab_pages.specs.Ranges.{IsGroupInRange}
+use Rattle.window_state.specs.Ranges.{IsTabInRange, IsWindowInRange}
 use Rattle.window_state.specs.Limits.{limit}
 
 pub record State : Type 0 where

@@ -1,7 +1,6 @@
 -- What a user sees of a state: the tabs that have a window and a page, sorted by their places, and the windows that
 -- have such a tab.
-use Rattle.std.specs.Prelude.{ℕ, ◌-◌, ◌==◌, ℤ, int_le, Bool, true, false, ◌&&◌, if◌then◌else◌, List, [], ◌∷◌, length, map, filter, fold, position, Option, Some, None}
-use Rattle.std.specs.Option.{unwrap_or}
+use Rattle.std.specs.Prelude.{◌==◌, ℤ, Bool, false, ◌&&◌, if◌then◌else◌, List, [], ◌∷◌, map, filter, fold, Option, Some, None}
 use Rattle.std.specs.List.{list_any}
 use Rattle.std.specs.Ordering.{int_cmp, int_eq, ordering_then, match_ordering}
 use Rattle.std.specs.declared.cmp.Ordering.{Ordering}
@@ -13,11 +12,9 @@ use Rattle.window_state.specs.declared.view_parts.ViewTab.{ViewTab}
 use Rattle.window_state.specs.declared.view_parts.ViewWindow.{ViewWindow}
 use Rattle.window_state.specs.declared.view_parts.View.{View}
 use Rattle.window_state.specs.Keys.{group_key}
+use Rattle.tab_pages.specs.PageLists.{has_page}
+use Rattle.tab_pages.specs.Positions.{first_from}
 use Rattle.window_state.specs.States.{State, is_in}
-
-abbrev pub has_page : {A : Type 0} → List A → Bool
-has_page [] = false
-has_page (p ∷ ps) = true
 
 abbrev pub is_shown : Option ℤ → Tab → Bool
 is_shown None t = false
@@ -40,10 +37,6 @@ by_place tabs = fold insert_by_place [] tabs
 
 abbrev pub shown_tabs : ℤ → List Tab → List Tab
 shown_tabs window tabs = by_place (filter (is_shown_in window) tabs)
-
--- the position of the first index that is at least this, else the last position
-abbrev pub first_from : ℤ → List ℤ → ℕ
-first_from least indices = unwrap_or (position (λ i. int_le least i) indices) (length indices - 1)
 
 abbrev pub view_tab : Tab → ViewTab
 view_tab t = record { info = t.info; pages = map (λ page. page.1) t.pages; current = first_from t.current (map (λ page. page.0) t.pages) }

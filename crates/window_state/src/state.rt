@@ -9,13 +9,13 @@ ghost use Rattle.window_state.specs.Members.{window_of, AreMembers};
 
 use crate::change::{TabChange, TabStep, WindowChange};
 use crate::members::Members;
-use crate::ranges;
 use crate::rows::Rows;
 use crate::tab::Tab;
 use crate::window::Window;
 use navigation_entry::GroupInfo;
 use std::alloc::{AllocError, Global};
 use std::marker::Model;
+use tab_pages::ranges;
 
 /// Tabs and windows by rising id, groups of tabs by rising token, and the active window, which need not stand. At
 /// most 1,048,576 tabs and as many windows; a tab's window stands, and every text fits the payload of its command.

@@ -3,10 +3,9 @@ ghost use Rattle.std.specs.Prelude.{◌≡◌, IfOk};
 
 use crate::extra::Extra;
 use crate::group_id::GroupId;
-use crate::pages::Pages;
-use crate::text;
 use pickle_cells::Blob;
 use std::alloc::AllocError;
+use tab_pages::{Pages, text};
 
 /// What is known of a tab beside its place and its pages. It owns its texts.
 #[derive(Drop)]

@@ -7,10 +7,10 @@ ghost use Rattle.window_state.specs.Changes.{new_tab, stepped_tab, changed_tab};
 use crate::change::{TabChange, TabStep};
 use crate::current;
 use crate::extra::Extra;
-use crate::pages::Pages;
 use crate::rows::{Changing, Row};
 use crate::tab::{Tab, TabInfo};
 use std::alloc::{AllocError, Global};
+use tab_pages::Pages;
 
 impl Row for Tab {
     type Key = i32;

@@ -8,10 +8,10 @@ ghost use Rattle.std.specs.Map.{keys_of};
 ghost use Rattle.std.specs.Map.Iter.{deref};
 ghost use Rattle.window_state.specs.Limits.{limit};
 ghost use Rattle.window_state.specs.Keys.{group_key, group_cmp};
-ghost use Rattle.window_state.specs.Views.{view, view_windows, with_shown, view_window, view_tab, active_shown, least_shown, first_from};
+ghost use Rattle.tab_pages.specs.Positions.{first_from};
+ghost use Rattle.window_state.specs.Views.{view, view_windows, with_shown, view_window, view_tab, active_shown, least_shown};
 ghost use Rattle.window_state.specs.Shown.{tabs_in, FitsPlace};
 
-use crate::position;
 use crate::rows::{Row, Rows};
 use crate::shown::Shown;
 use crate::state::SessionState;
@@ -21,6 +21,7 @@ use crate::window::Window;
 use item_list::Items;
 use navigation_entry::GroupInfo;
 use std::alloc::{AllocError, Global};
+use tab_pages::position;
 
 /// What a user sees of a state, in memory of its own. It makes O((t + w + g) log t) comparisons for t tabs, w windows
 /// and g groups, and copies once each page, text and value that is shown.

@@ -2,10 +2,10 @@
 ghost use Rattle.std.specs.Prelude.{◌≡◌, IfOk};
 
 use crate::extra::Extra;
-use crate::text;
 use navigation_entry::Bounds;
 use pickle_cells::Blob;
 use std::alloc::AllocError;
+use tab_pages::text;
 
 /// What is known of a window beside its selected tab. It owns its texts.
 #[derive(Drop)]

@@ -10,8 +10,8 @@ use Rattle.std.specs.BTreeMap.{insert_entry}
 use Rattle.std.proofs.lemmas.Int.{ints}
 use Rattle.std.proofs.lemmas.Map.Keys.{sorted_head, sorted_tail}
 use Rattle.navigation_entry.specs.declared.navigation.Navigation.{Navigation}
-use Rattle.window_state.specs.PageLists.{IsRising, is_natural}
-use Rattle.window_state.specs.Changes.{put_page, set_pair}
+use Rattle.tab_pages.specs.PageLists.{IsRising, is_natural, put_page}
+use Rattle.window_state.specs.Changes.{set_pair}
 use Rattle.window_state.specs.Fits.{HasDistinctKeys}
 use Rattle.window_state.specs.RowLists.{find_row, put_row, step_row}
 use Rattle.window_state.proofs.ExtraLaws.{insert-next}

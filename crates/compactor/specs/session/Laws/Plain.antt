@@ -11,8 +11,10 @@ use Rattle.session_commands.proofs.RowLaws.{Joined, joined}
 use Rattle.session_commands.proofs.TableLaws.{navigation_is_sound, group_is_sound}
 use Rattle.window_state.specs.declared.tab.Tab.{Tab}
 use Rattle.window_state.specs.declared.window.Window.{Window}
-use Rattle.window_state.specs.Ranges.{AreBoundsInRange, IsPageInRange, IsGroupIdInRange, IsGroupInRange, IsTabInRange, IsWindowInRange}
-use Rattle.window_state.specs.Fits.{FitsText, FitsRest, FitsPair, IsKeptTab, IsKeptWindow}
+use Rattle.tab_pages.specs.Ranges.{AreBoundsInRange, IsPageInRange, IsGroupInRange}
+use Rattle.window_state.specs.Ranges.{IsGroupIdInRange, IsTabInRange, IsWindowInRange}
+use Rattle.tab_pages.specs.Fits.{FitsText, FitsRest}
+use Rattle.window_state.specs.Fits.{FitsPair, IsKeptTab, IsKeptWindow}
 use Rattle.window_state.specs.States.{State, IsState}
 use Rattle.machine_law.specs.Kind.{marker_id}
 use Rattle.replay_machine.specs.Step.{step}

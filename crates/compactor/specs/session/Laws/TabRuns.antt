@@ -13,7 +13,8 @@ use Rattle.window_state.specs.declared.window.Window.{Window}
 use Rattle.window_state.specs.Limits.{limit}
 use Rattle.window_state.specs.Keys.{tab_key, window_key}
 use Rattle.window_state.specs.Fits.{IsKeptTab}
-use Rattle.window_state.specs.Changes.{new_tab, new_window, put_page, set_pair}
+use Rattle.tab_pages.specs.PageLists.{put_page}
+use Rattle.window_state.specs.Changes.{new_tab, new_window, set_pair}
 use Rattle.window_state.specs.States.{State, HasWindow, stands, on_tab, placed}
 use Rattle.window_state.proofs.StateLaws.{itself}
 use Rattle.compactor.specs.session.Compaction.{tab_commands}

@@ -1,6 +1,6 @@
 use Rattle.std.proofs.Common.{FitsSigned, w32, refl}
 use Rattle.std.proofs.lemmas.Int.{to_z-of_z}
-use Rattle.window_state.proofs.PositionLaws.{first_from-map}
+use Rattle.tab_pages.proofs.PositionLaws.{first_from-map}
 use Rattle.window_state.proofs.viewing.first_from.Goals as goal
 
 pub returns : goal.returns

@@ -1,0 +1,4 @@
+pub mod PageLaws
+pub mod RangeLaws
+pub mod PositionLaws
+mod WorkedPrunings

@@ -1,0 +1,5 @@
+pub mod PageLists
+pub mod Positions
+pub mod Ranges
+pub mod Fits
+pub use Rattle.pickle_cells.specs.Cell
