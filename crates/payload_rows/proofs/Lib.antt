@@ -5,3 +5,5 @@ pub mod WriteLaws
 pub mod PickledLaws
 pub mod PassingLaws
 pub mod TableLookup
+pub mod CommandsByShape
+pub mod TableLaws

@@ -7,6 +7,10 @@ use Rattle.payload_rows.specs.FixedReading.{int_at, int64_at, uint64_at, flag_at
 use Rattle.payload_rows.specs.PayloadLayout.{Fixed, IsLaidOut}
 use Rattle.payload_rows.proofs.FieldLaws.{AreBytes, fields_found}
 
+pub flag_read : (payload : List ℕ) (b : Bool) → AreBytes payload → length payload ≡ 1 → b ≡ flag_at 0 payload → IsLaidOut (Fixed (Flag b ∷ [])) payload
+unfolding IsLaidOut
+flag_read payload b range size e = rw e (fields_found (FlagField ∷ []) payload range size)
+
 pub int_read : (payload : List ℕ) (a : ℤ) → AreBytes payload → length payload ≡ 4 → a ≡ int_at 0 payload → IsLaidOut (Fixed (Int a ∷ [])) payload
 unfolding IsLaidOut
 int_read payload a range size e = rw e (fields_found (IntField ∷ []) payload range size)
@@ -32,6 +36,10 @@ six_ints_read payload a b c d e f range size p q r s t u =
 pub int_time_read : (payload : List ℕ) (a t : ℤ) → AreBytes payload → length payload ≡ 16 → a ≡ int_at 0 payload → t ≡ int64_at 8 payload → IsLaidOut (Fixed (Int a ∷ Free 4 ∷ Int64 t ∷ [])) payload
 unfolding IsLaidOut
 int_time_read payload a t range size e f = rw (e, f) (fields_found (IntField ∷ FreeField 4 ∷ Int64Field ∷ []) payload range size)
+
+pub two_ints_time_read : (payload : List ℕ) (a b t : ℤ) → AreBytes payload → length payload ≡ 16 → a ≡ int_at 0 payload → b ≡ int_at 4 payload → t ≡ int64_at 8 payload → IsLaidOut (Fixed (Int a ∷ Int b ∷ Int64 t ∷ [])) payload
+unfolding IsLaidOut
+two_ints_time_read payload a b t range size e f g = rw (e, f, g) (fields_found (IntField ∷ IntField ∷ Int64Field ∷ []) payload range size)
 
 pub group_read : (payload : List ℕ) (a : ℤ) (high low : ℕ) (b : Bool) → AreBytes payload → length payload ≡ 32 → a ≡ int_at 0 payload → high ≡ uint64_at 8 payload → low ≡ uint64_at 16 payload → b ≡ flag_at 24 payload →
     IsLaidOut (Fixed (Int a ∷ Free 4 ∷ Uint64 high ∷ Uint64 low ∷ Flag b ∷ Free 7 ∷ [])) payload

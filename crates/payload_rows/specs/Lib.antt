@@ -4,6 +4,7 @@ pub mod RowLayouts
 pub mod Shapes
 pub mod Faults
 pub mod Contents
+pub mod Rows
 pub use Rattle.pickle_cells.specs.Layout
 pub use Rattle.pickle_cells.specs.PickleLayout
 pub use Rattle.navigation_entry.specs.Layouts

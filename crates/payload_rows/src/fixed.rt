@@ -3,10 +3,20 @@ ghost use Rattle.std.specs.Prelude.{◌≡◌, ◌+◌, ◌<◌, ◌≤◌, leng
 ghost use Rattle.std.specs.Int.{w64, from_le_bytes};
 ghost use Rattle.payload_rows.specs.FixedReading.{int_at, int64_at, uint64_at, flag_at};
 ghost use Rattle.payload_rows.specs.Contents.{IsRead};
-ghost use Rattle.payload_rows.specs.declared.shape.Shape.TheVariants.{Int, TwoInts, ThreeInts, IntFlag, IntTime, WindowBounds, TabGroup};
+ghost use Rattle.payload_rows.specs.declared.shape.Shape.TheVariants.{Flag, Int, TwoInts, ThreeInts, IntFlag, IntTime, TwoIntsTime, WindowBounds, TabGroup};
 
 use crate::fields::Fields;
 use navigation_entry::Bounds;
+
+#[tactic(auto, using(crate::proofs::ShapeLaws::flag_read))]
+pub(crate) fn flag(payload: &[u8]) -> Option<Fields>
+    ensures { IsRead Flag payload.now result }
+{
+    if payload.len() != 1 {
+        return None;
+    }
+    Some(Fields::Flag(flag_in(payload, 0)))
+}
 
 #[tactic(auto, using(crate::proofs::ShapeLaws::int_read))]
 pub(crate) fn int(payload: &[u8]) -> Option<Fields>
@@ -57,6 +67,17 @@ pub(crate) fn int_time(payload: &[u8]) -> Option<Fields>
         return None;
     }
     Some(Fields::IntTime(int_in(payload, 0), int64_in(payload, 8)))
+}
+
+#[tactic(auto, using(crate::proofs::ShapeLaws::two_ints_time_read))]
+pub(crate) fn two_ints_time(payload: &[u8]) -> Option<Fields>
+    ensures { IsRead TwoIntsTime payload.now result }
+{
+    if payload.len() != 16 {
+        return None;
+    }
+    let (first, second, time) = (int_in(payload, 0), int_in(payload, 4), int64_in(payload, 8));
+    Some(Fields::TwoIntsTime(first, second, time))
 }
 
 #[tactic(auto, using(crate::proofs::ShapeLaws::six_ints_read))]

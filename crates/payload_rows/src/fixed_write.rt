@@ -2,11 +2,19 @@
 //! where memory is short.
 ghost use Rattle.std.specs.Prelude.{◌≡◌, ◌++◌, OnOk, OnErr};
 ghost use Rattle.payload_rows.specs.PayloadLayout.{layout_bytes};
-ghost use Rattle.payload_rows.specs.RowLayouts.{int_row, two_ints_row, three_ints_row, int_flag_row, int_time_row, window_bounds_row, tab_group_row};
+ghost use Rattle.payload_rows.specs.RowLayouts.{flag_row, int_row, two_ints_row, three_ints_row, int_flag_row, int_time_row, two_ints_time_row, window_bounds_row, tab_group_row};
 ghost use Rattle.pickle_cells.specs.Cell.{int, int64, uint64};
 
 use navigation_entry::Bounds;
 use std::alloc::AllocError;
+
+#[tactic(auto, unfolding(pickle_cells::specs::Layout::fields_bytes, pickle_cells::specs::Layout::field_bytes))]
+pub(crate) fn put_flag(flag: bool, out: &mut Vec<u8>) -> Result<(), AllocError>
+    ensures ok { OnOk result (out.new.items ≡ out.old.items ++ layout_bytes (flag_row flag)) }
+    ensures err { OnErr result (out.new.items ≡ out.old.items) }
+{
+    out.extend_from_slice(&[flag as u8])
+}
 
 #[tactic(auto, unfolding(pickle_cells::specs::Layout::fields_bytes, pickle_cells::specs::Layout::field_bytes))]
 pub(crate) fn put_int(a: i32, out: &mut Vec<u8>) -> Result<(), AllocError>
@@ -60,6 +68,23 @@ pub(crate) fn put_int_time(a: i32, time: i64, out: &mut Vec<u8>) -> Result<(), A
     out.reserve(16)?;
     out.extend_from_slice(&int_bytes(a))?;
     out.extend_from_slice(&[0; 4])?;
+    out.extend_from_slice(&int64_bytes(time))?;
+    Ok(())
+}
+
+#[tactic(auto, unfolding(pickle_cells::specs::Layout::fields_bytes, pickle_cells::specs::Layout::field_bytes))]
+pub(crate) fn put_two_ints_time(
+    a: i32,
+    b: i32,
+    time: i64,
+    out: &mut Vec<u8>,
+) -> Result<(), AllocError>
+    ensures ok { OnOk result (out.new.items ≡ out.old.items ++ layout_bytes (two_ints_time_row a b time)) }
+    ensures err { OnErr result (out.new.items ≡ out.old.items) }
+{
+    out.reserve(16)?;
+    out.extend_from_slice(&int_bytes(a))?;
+    out.extend_from_slice(&int_bytes(b))?;
     out.extend_from_slice(&int64_bytes(time))?;
     Ok(())
 }

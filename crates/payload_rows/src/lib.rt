@@ -22,9 +22,11 @@ mod pickled_write;
 mod refusal;
 mod row;
 mod shape;
+mod window_entry;
 
 pub use fault::PayloadFault;
 pub use fields::Fields;
 pub use kind::{FieldKind, Kinds};
 pub use row::RowRef;
 pub use shape::Shape;
+pub use window_entry::WindowEntry;

@@ -3,9 +3,10 @@ ghost use Rattle.std.specs.Prelude.{◌≡◌, ◌≤◌, [], ◌∷◌, length,
 ghost use Rattle.pickle_cells.specs.PickleLayout.{Int, Text, IsReadAs, pickled_at};
 ghost use Rattle.payload_rows.specs.Shapes.{int_rest_kinds, int_text_kinds, int_two_texts_kinds};
 ghost use Rattle.payload_rows.specs.Contents.{IsRead};
-ghost use Rattle.payload_rows.specs.declared.shape.Shape.TheVariants.{IntRest, IntText, IntTwoTexts, Navigation as NavigationShape, Group};
+ghost use Rattle.payload_rows.specs.declared.shape.Shape.TheVariants.{IntRest, IntText, IntTwoTexts, WindowEntry, Navigation as NavigationShape, Group};
 
 use crate::fields::Fields;
+use crate::window_entry::read_window_entry;
 use navigation_entry::{read_group, read_navigation};
 use pickle_cells::{Blob, Cursor, PickleFault};
 use std::alloc::{AllocError, Global};
@@ -47,6 +48,18 @@ pub(crate) fn int_two_texts(alloc: Global, payload: &[u8]) -> Result<Option<Fiel
     let second = Blob::from_slice(alloc, second)?;
     let tail = Blob::from_slice(alloc, tail)?;
     Ok(Some(Fields::IntTwoTexts(number, first, second, tail)))
+}
+
+#[tactic(auto, using(crate::proofs::LayoutLaws::pickled_read))]
+pub(crate) fn window_entry(alloc: Global, payload: &[u8]) -> Result<Option<Fields>, AllocError>
+    requires { length payload.now ≤ 65534 }
+    ensures { IfOk result (λ found. IsRead WindowEntry payload.now found) }
+{
+    let Ok((entry, tail)) = read_window_entry(payload) else {
+        return Ok(None);
+    };
+    let tail = Blob::from_slice(alloc, tail)?;
+    Ok(Some(Fields::WindowEntry(entry, tail)))
 }
 
 #[tactic(auto, using(crate::proofs::PickledLaws::navigation_read))]

@@ -5,9 +5,10 @@ ghost use Rattle.std.specs.Vec.{vec_len, vec_capacity};
 ghost use Rattle.pickle_cells.specs.Cell.{int, uint32, string, string_size};
 ghost use Rattle.pickle_cells.specs.PickleLayout.{Int, Text, pickled_size};
 ghost use Rattle.payload_rows.specs.PayloadLayout.{layout_bytes};
-ghost use Rattle.payload_rows.specs.RowLayouts.{int_rest_row, int_text_row, int_two_texts_row, navigation_row, group_row};
+ghost use Rattle.payload_rows.specs.RowLayouts.{int_rest_row, int_text_row, int_two_texts_row, window_entry_row, window_entry_items, navigation_row, group_row};
 
 use crate::fixed_write::int_bytes;
+use crate::window_entry::{WindowEntry, write_window_entry};
 use navigation_entry::{GroupInfo, Navigation, write_group, write_navigation};
 use pickle_cells::string_item_size;
 use std::alloc::AllocError;
@@ -72,6 +73,22 @@ pub(crate) fn put_int_two_texts(
     put_string(key, out)?;
     put_string(value, out)?;
     out.extend_from_slice(tail)?;
+    Ok(())
+}
+
+/// What is known of a closed window, by way of a buffer of its own.
+pub(crate) fn put_window_entry(
+    entry: WindowEntry,
+    tail: &[u8],
+    out: &mut Vec<u8>,
+) -> Result<(), AllocError>
+    requires whole { length tail.now % 4 ≡ 0 }
+    requires short { pickled_size (window_entry_items entry) tail.now ≤ 65534 }
+    ensures ok { OnOk result (out.new.items ≡ out.old.items ++ layout_bytes (window_entry_row entry tail.now)) }
+    ensures err { OnErr result (out.new.items ≡ out.old.items) }
+{
+    let pickle = write_window_entry(*out.allocator(), entry, tail)?;
+    out.extend_from_slice(&pickle)?;
     Ok(())
 }
 

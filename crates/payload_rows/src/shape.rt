@@ -8,9 +8,11 @@ use crate::kind::{FieldKind, Kinds};
 use crate::refusal;
 use pickle_cells::ItemKind;
 
-/// Which fields a payload has, without their values. The first seven are of fixed length, the others are pickles.
+/// Which fields a payload has, without their values. The first nine are of fixed length, the others are pickles.
 #[derive(Clone, Copy)]
 pub enum Shape {
+    /// A flag, in 1 byte.
+    Flag,
     /// A signed number, in 4 bytes.
     Int,
     /// Two signed numbers, in 8 bytes.
@@ -21,6 +23,8 @@ pub enum Shape {
     IntFlag,
     /// A signed number and a time, in 16 bytes.
     IntTime,
+    /// Two signed numbers and a time, in 16 bytes.
+    TwoIntsTime,
     /// A window and its bounds, in 24 bytes.
     WindowBounds,
     /// A tab, the two numbers of its group's token, and a flag, in 32 bytes.
@@ -31,6 +35,8 @@ pub enum Shape {
     IntText,
     /// A number, two strings and a tail.
     IntTwoTexts,
+    /// What is known of a closed window, and a tail.
+    WindowEntry,
     /// A navigation of a tab at an index.
     Navigation,
     /// What is known of a group of tabs.
@@ -45,16 +51,29 @@ impl Shape {
     {
         use FieldKind::{Flag, Free, Int, Int64, Uint64};
         match self {
+            Shape::Flag => Kinds::Fixed(&[Flag]),
             Shape::Int => Kinds::Fixed(&[Int]),
             Shape::TwoInts => Kinds::Fixed(&[Int, Int]),
             Shape::ThreeInts => Kinds::Fixed(&[Int, Int, Int]),
             Shape::IntFlag => Kinds::Fixed(&[Int, Flag, Free(3)]),
             Shape::IntTime => Kinds::Fixed(&[Int, Free(4), Int64]),
+            Shape::TwoIntsTime => Kinds::Fixed(&[Int, Int, Int64]),
             Shape::WindowBounds => Kinds::Fixed(&[Int, Int, Int, Int, Int, Int]),
             Shape::TabGroup => Kinds::Fixed(&[Int, Free(4), Uint64, Uint64, Flag, Free(7)]),
             Shape::IntRest => Kinds::Pickled(&[ItemKind::Int]),
             Shape::IntText => Kinds::Pickled(&[ItemKind::Int, ItemKind::Text]),
             Shape::IntTwoTexts => Kinds::Pickled(&[ItemKind::Int, ItemKind::Text, ItemKind::Text]),
+            Shape::WindowEntry => Kinds::Pickled(&[
+                ItemKind::Int,
+                ItemKind::Int,
+                ItemKind::Int,
+                ItemKind::Int64,
+                ItemKind::Int,
+                ItemKind::Int,
+                ItemKind::Int,
+                ItemKind::Int,
+                ItemKind::Int,
+            ]),
             Shape::Navigation => Kinds::Pickled(&[
                 ItemKind::Int,
                 ItemKind::Int,

@@ -1,7 +1,7 @@
 -- The ids of session commands with the shapes of their payloads, and why no row holds for a payload.
-use Rattle.std.specs.Prelude.{ℕ, List, [], ◌∷◌, Option, option_map}
+use Rattle.std.specs.Prelude.{ℕ, List, [], ◌∷◌, Option}
 use Rattle.payload_rows.specs.PayloadLayout.{Shape}
-use Rattle.payload_rows.specs.Shapes.{fields_of, shape_at}
+use Rattle.payload_rows.specs.Shapes.{shape_at, shape_in}
 use Rattle.payload_rows.specs.Faults.{shape_fault}
 use Rattle.payload_rows.specs.declared.fault.PayloadFault.{PayloadFault}
 use Rattle.payload_rows.specs.declared.shape.Shape.{Shape as Named}
@@ -43,7 +43,7 @@ abbrev pub name_of : ℕ → Option Named
 name_of id = shape_at shapes id
 
 abbrev pub shape_of : ℕ → Option Shape
-shape_of id = option_map fields_of (name_of id)
+shape_of id = shape_in shapes id
 
 -- the first test that a payload fails, None where a row holds
 unfoldable pub fault_of : ℕ → List ℕ → Option PayloadFault

@@ -4,17 +4,11 @@ use Rattle.std.specs.Prelude.{◌≡◌, ℕ, List, [], ◌∷◌, is_some, true
 use Rattle.pickle_cells.specs.Layout.{Int, Int64, Uint64, Flag, Free}
 use Rattle.pickle_cells.specs.PickleLayout.{Int as IntItem, Text as TextItem}
 use Rattle.navigation_entry.specs.Layouts.{navigation_items, group_items}
-use Rattle.payload_rows.specs.PayloadLayout.{Layout, Fixed, Pickled, IsLaidOut}
-use Rattle.payload_rows.specs.Contents.{Content, Laid, Verbatim, content_bytes, FitsContent, IsWholeContent}
+use Rattle.payload_rows.specs.PayloadLayout.{Fixed, Pickled}
+use Rattle.payload_rows.specs.Rows.{Row, Known, Kept, Holds, row_id, row_bytes, RowFits, RowIsWhole, is_known}
 use Rattle.session_commands.specs.Faults.{fault_of}
-use Rattle.session_commands.specs.declared.raw.RawCommand.{RawCommand}
 use Rattle.session_commands.specs.declared.command.SessionCommand.{SessionCommand}
 use Rattle.session_commands.specs.declared.command.SessionCommand.TheVariants.{UpdateNavigation, GroupData, Extension, WindowApp, SessionStorage, Workspace, TabGuid, UserAgent, UserTitle, TabExtra, WindowExtra, TabWindow, TabIndex, PrunedBack, SelectNavigation, SelectTab, WindowKind, PrunedFront, Pinned, WindowBounds, TabClosed, WindowClosed, ActiveWindow, LastActive, Pruned, TabGroup, AllWorkspaces, Raw}
-
--- a row says an id and a layout; a raw command is kept without one
-pub data Row : Type 0 where
-  Known : ℕ → Layout → Row
-  Kept : RawCommand → Row
 
 abbrev pub row : SessionCommand → Row
 row (TabWindow window tab) = Known 0 (Fixed (Int window ∷ Int tab ∷ []))
@@ -47,27 +41,12 @@ row (UserTitle window title tail) = Known 31 (Pickled (IntItem window ∷ TextIt
 row (AllWorkspaces window all) = Known 32 (Fixed (Int window ∷ Flag all ∷ Free 3 ∷ []))
 row (TabExtra tab key value tail) = Known 33 (Pickled (IntItem tab ∷ TextItem key ∷ TextItem value ∷ []) tail)
 row (WindowExtra window key value tail) = Known 34 (Pickled (IntItem window ∷ TextItem key ∷ TextItem value ∷ []) tail)
-row (Raw raw) = Kept raw
-
-abbrev pub Holds : Row → ℕ → List ℕ → Type 0
-Holds (Known own layout) id payload = (id ≡ own) × IsLaidOut layout payload
-Holds (Kept raw) id payload = (id ≡ raw.id) × (payload ≡ raw.payload)
+row (Raw raw) = Kept raw.id raw.payload
 
 -- The payload under this id is the command's: its row holds, or it is raw. A raw command exists only where no
 -- row holds, so at most one command has a payload.
 abbrev pub Payload : ℕ → SessionCommand → List ℕ → Type 0
 Payload id command payload = Holds (row command) id payload
-
--- the id and the content that a row writes
-abbrev pub told : Row → ℕ × Content
-told (Known id layout) = (id, Laid layout)
-told (Kept raw) = (raw.id, Verbatim raw.payload)
-
-abbrev pub row_id : Row → ℕ
-row_id r = (told r).0
-
-abbrev pub row_bytes : Row → List ℕ
-row_bytes r = content_bytes (told r).1
 
 -- the id and the payload that are written for a command
 abbrev pub id_of : SessionCommand → ℕ
@@ -76,21 +55,13 @@ id_of command = row_id (row command)
 abbrev pub payload_of : SessionCommand → List ℕ
 payload_of command = row_bytes (row command)
 
-abbrev pub RowFits : Row → Type 0
-RowFits r = FitsContent (told r).1
-
 -- the command has a row, and so isn't raw
-pub record IsKnown (command : SessionCommand) : Type 0 where
-  pub id : ℕ
-  pub layout : Layout
-  pub is : row command ≡ Known id layout
+abbrev pub IsKnown : SessionCommand → Type 0
+IsKnown command = is_known (row command) ≡ true
 
 -- the numbers are in the ranges of their types, as those of every value are
 abbrev pub IsInRange : SessionCommand → Type 0
 IsInRange command = RowFits (row command)
-
-abbrev pub RowIsWhole : Row → Type 0
-RowIsWhole r = IsWholeContent (told r).1
 
 -- the tail of a pickled command has whole words, and its payload at most 65,534 bytes
 abbrev pub IsSound : SessionCommand → Type 0

@@ -12,7 +12,8 @@ use pickle_cells::Blob;
 
 impl SessionCommand {
     ghost use Rattle.session_commands.specs.Faults.{shape_of};
-    ghost use Rattle.session_commands.specs.Table.{row, Known};
+    ghost use Rattle.payload_rows.specs.Rows.{Known};
+    ghost use Rattle.session_commands.specs.Table.{row};
 
     pub(crate) fn from_fields(id: u8, fields: Fields) -> SessionCommand
         requires { shape_of id ≡ Some (shape (layout_of fields)) }
@@ -44,6 +45,7 @@ impl SessionCommand {
                 navigation,
             },
             Fields::Group(group) => SessionCommand::GroupData { group },
+            Fields::Flag(_) | Fields::TwoIntsTime(..) | Fields::WindowEntry(..) => unreachable!(),
         }
     }
 

@@ -7,7 +7,8 @@ use payload_rows::{RowRef, Shape};
 impl SessionCommand {
     ghost use Rattle.payload_rows.specs.Contents.{content};
     ghost use Rattle.session_commands.specs.Faults.{name_of};
-    ghost use Rattle.session_commands.specs.Table.{row, told};
+    ghost use Rattle.payload_rows.specs.Rows.{told};
+    ghost use Rattle.session_commands.specs.Table.{row};
 
     /// The id under which the command is written, and what its payload says. It takes no memory.
     pub fn row(&self) -> (u8, RowRef<'_>)

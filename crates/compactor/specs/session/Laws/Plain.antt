@@ -1,52 +1,40 @@
 -- Every command of a compaction has a row and can be written, so none is the marker, and its numbers are in range.
-use Rattle.std.proofs.Common.{◌≡◌, ℤ, pos, negsuc, Bool, true, false, cond, List, [], ◌∷◌, ◌++◌, map, flat_map, Option, Some, None, IfSome, FitsSigned, w32, refl, ap, ◌∙◌, arith}
+use Rattle.std.proofs.Common.{◌≡◌, ℤ, pos, negsuc, Bool, true, false, cond, List, [], ◌∷◌, ◌++◌, map, flat_map, Option, Some, None, IfSome, FitsSigned, w32, refl, ap, subst, arith}
 use Rattle.std.specs.List.{AllByRecursion}
 use Rattle.std.specs.Ordering.{int_eq}
 use Rattle.session_commands.specs.declared.command.SessionCommand.{SessionCommand}
-use Rattle.session_commands.specs.declared.command.SessionCommand.TheVariants.{UpdateNavigation, GroupData, Extension, WindowApp, SessionStorage, Workspace, TabGuid, UserAgent, UserTitle, TabExtra, WindowExtra, TabWindow, TabIndex, SelectNavigation, SelectTab, WindowKind, Pinned, WindowBounds, ActiveWindow, LastActive, TabGroup, AllWorkspaces}
-use Rattle.payload_rows.specs.PayloadLayout.{shape}
-use Rattle.session_commands.specs.Faults.{shape_of}
-use Rattle.session_commands.specs.Table.{Row, Known, Kept, row, Holds, Payload, IsSound, IsInRange}
-use Rattle.session_commands.proofs.RowLaws.{Joined, joined}
-use Rattle.session_commands.proofs.TableLaws.{navigation_is_sound, group_is_sound}
+use Rattle.session_commands.specs.declared.command.SessionCommand.TheVariants.{UpdateNavigation, GroupData, Extension, WindowApp, SessionStorage, Workspace, TabGuid, UserAgent, UserTitle, TabExtra, WindowExtra, TabWindow, TabIndex, SelectNavigation, SelectTab, WindowKind, Pinned, WindowBounds, ActiveWindow, LastActive, TabGroup, AllWorkspaces, Raw}
+use Rattle.session_commands.specs.Table.{Payload, IsSound, IsInRange, IsKnown}
+use Rattle.session_commands.proofs.MarkerLaws.{marker_command, marker_payload}
+use Rattle.session_commands.proofs.TableLaws.{one_command, navigation_is_sound, group_is_sound}
 use Rattle.window_state.specs.declared.tab.Tab.{Tab}
 use Rattle.window_state.specs.declared.window.Window.{Window}
-use Rattle.tab_pages.specs.Ranges.{AreBoundsInRange, IsPageInRange, IsGroupInRange}
-use Rattle.window_state.specs.Ranges.{IsGroupIdInRange, IsTabInRange, IsWindowInRange}
-use Rattle.tab_pages.specs.Fits.{FitsText, FitsRest}
-use Rattle.window_state.specs.Fits.{FitsPair, IsKeptTab, IsKeptWindow}
+use Rattle.window_state.specs.Ranges.{AreBoundsInRange, IsPageInRange, IsGroupIdInRange, IsGroupInRange, IsTabInRange, IsWindowInRange}
+use Rattle.window_state.specs.Fits.{FitsText, FitsRest, FitsPair, IsKeptTab, IsKeptWindow}
 use Rattle.window_state.specs.States.{State, IsState}
 use Rattle.machine_law.specs.Kind.{marker_id}
 use Rattle.replay_machine.specs.Step.{step}
 use Rattle.compactor.specs.session.Compaction.{given, flagged, unusual, window_commands, tab_commands, compaction}
 
-abbrev pub is_known : Row → Bool
-is_known (Known id layout) = true
-is_known (Kept raw) = false
-
 -- a command that has a row and can be written, with its numbers in range
 pub record IsPlain (command : SessionCommand) : Type 0 where
   pub sound : IsSound command
-  pub known : is_known (row command) ≡ true
+  pub known : IsKnown command
   pub ranged : IsInRange command
 
--- a command with a row isn't the marker, whose id has none
-no_row : (command : SessionCommand) (r : Row) → Joined command r → is_known r ≡ true → Holds r marker_id [] → ⊥
-no_row command (Known id layout) joins known holds =
-    let none : shape_of marker_id ≡ Some (shape layout) = ap shape_of holds.0 ∙ joins.0 in
-    absurd cc
-no_row command (Kept raw) joins known holds = absurd cc
+-- the marker's id and payload are those of one raw command
+is_marker : (command : SessionCommand) → Payload marker_id command [] → command ≡ Raw marker_command
+is_marker command holds = one_command (Raw marker_command) command marker_id [] marker_payload holds
 
+-- so a command with a row isn't the marker
 pub unmarked : (command : SessionCommand) → IsPlain command → Payload marker_id command [] → ⊥
-unmarked command plain holds = no_row command (row command) (joined command) plain.known holds
+unmarked command plain holds =
+    let bad : IsKnown (Raw marker_command) = subst IsKnown (is_marker command holds) plain.known in
+    absurd cc
 
--- the marker changes no state
-raw_leaves : (state : State) (command : SessionCommand) (r : Row) → Joined command r → Holds r marker_id [] → step state command ≡ state
-raw_leaves state command (Known id layout) joins holds = absurd (no_row command (Known id layout) joins refl holds)
-raw_leaves state command (Kept raw) joins holds = rw joins refl
-
+-- and the marker changes no state
 pub marker-leaves : (state : State) (command : SessionCommand) → Payload marker_id command [] → step state command ≡ state
-marker-leaves state command holds = raw_leaves state command (row command) (joined command) holds
+marker-leaves state command holds = ap (step state) (is_marker command holds)
 
 -- all commands of a list are so
 pub record ArePlain (commands : List SessionCommand) : Type 0 where

@@ -1,3 +1,4 @@
+-- The row that is told is the one of the command that is made.
 use Rattle.std.proofs.Common.{◌≡◌}
 use Rattle.payload_rows.specs.Contents.{Laid, layout_of, content}
 use Rattle.session_commands.proofs.TableLaws.{tells_shape, same_row}

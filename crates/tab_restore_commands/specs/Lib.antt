@@ -1,0 +1,9 @@
+pub mod Faults
+pub mod Table
+pub use Rattle.pickle_cells.specs.Layout
+pub use Rattle.pickle_cells.specs.PickleLayout
+pub use Rattle.navigation_entry.specs.Layouts
+pub use Rattle.payload_rows.specs.PayloadLayout
+pub use Rattle.payload_rows.specs.Shapes
+pub use Rattle.payload_rows.specs.Contents
+pub use Rattle.payload_rows.specs.Rows
