@@ -1,25 +1,12 @@
 -- The commands that restate a state: each window by rising id, each tab by rising id, the groups in their order, and
 -- the active window. What a new window or a new tab has already isn't said again, and no command has a tail.
-use Rattle.std.specs.Prelude.{ℕ, ◌+◌, ℤ, pos, negsuc, Bool, true, List, [], ◌∷◌, ◌++◌, map, length, Option, Some, None, sum_by, flat_map, if◌then◌else◌}
-use Rattle.std.specs.Ordering.{int_eq}
+use Rattle.std.specs.Prelude.{ℕ, ◌+◌, pos, negsuc, true, List, [], ◌∷◌, ◌++◌, map, length, sum_by, flat_map}
 use Rattle.session_commands.specs.declared.command.SessionCommand.{SessionCommand}
 use Rattle.session_commands.specs.declared.command.SessionCommand.TheVariants.{UpdateNavigation, GroupData, Extension, WindowApp, SessionStorage, Workspace, TabGuid, UserAgent, UserTitle, TabExtra, WindowExtra, TabWindow, TabIndex, SelectNavigation, SelectTab, WindowKind, Pinned, WindowBounds, ActiveWindow, LastActive, TabGroup, AllWorkspaces}
 use Rattle.window_state.specs.declared.tab.Tab.{Tab}
 use Rattle.window_state.specs.declared.window.Window.{Window}
 use Rattle.window_state.specs.States.{State}
-
--- a command of a value that is set
-abbrev pub given : {A : Type 0} → (A → SessionCommand) → Option A → List SessionCommand
-given command None = []
-given command (Some x) = command x ∷ []
-
--- a command where a flag is set
-abbrev pub flagged : SessionCommand → Bool → List SessionCommand
-flagged command flag = if flag then command ∷ [] else []
-
--- a command of a number that isn't the usual one
-abbrev pub unusual : ℤ → (ℤ → SessionCommand) → ℤ → List SessionCommand
-unusual usual command z = if int_eq z usual then [] else command z ∷ []
+use Rattle.compaction_runs.specs.FieldCommands.{given, flagged, unusual}
 
 abbrev pub window_commands : Window → List SessionCommand
 window_commands w =

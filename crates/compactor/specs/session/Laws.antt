@@ -1,6 +1,5 @@
 -- What is proved of a session as a machine. It stands among the definitions since the machine itself says it.
-pub mod Runs
-pub mod Appended
+pub mod AppendedRows
 pub mod WindowRuns
 pub mod TabRuns
 pub mod FoldsBack

@@ -1,7 +1,8 @@
 //! The commands that restate a state.
 ghost use Rattle.std.specs.Prelude.{◌≡◌, ◌++◌, map, flat_map, IfOk, OnOk};
 ghost use Rattle.session_commands.specs.declared.command.SessionCommand.TheVariants.{GroupData, ActiveWindow};
-ghost use Rattle.compactor.specs.session.Compaction.{compaction, given, tab_commands, window_commands};
+ghost use Rattle.compaction_runs.specs.FieldCommands.{given};
+ghost use Rattle.compactor.specs.session.Compaction.{compaction, tab_commands, window_commands};
 
 use super::{tab, weight, window};
 use navigation_entry::GroupInfo;

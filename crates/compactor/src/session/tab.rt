@@ -1,7 +1,8 @@
 //! The commands that restate a tab.
 ghost use Rattle.std.specs.Prelude.{◌≡◌, ◌++◌, [], ◌∷◌, pos, negsuc, true, map, OnOk};
 ghost use Rattle.session_commands.specs.declared.command.SessionCommand.TheVariants.{Extension, LastActive, Pinned, SelectNavigation, SessionStorage, TabGroup, TabGuid, TabIndex, TabWindow, UpdateNavigation, UserAgent};
-ghost use Rattle.compactor.specs.session.Compaction.{flagged, given, tab_commands, unusual};
+ghost use Rattle.compaction_runs.specs.FieldCommands.{flagged, given, unusual};
+ghost use Rattle.compactor.specs.session.Compaction.{tab_commands};
 
 use super::pairs;
 use pickle_cells::Blob;

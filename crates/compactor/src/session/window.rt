@@ -1,7 +1,8 @@
 //! The commands that restate a window.
 ghost use Rattle.std.specs.Prelude.{◌≡◌, ◌++◌, [], ◌∷◌, pos, true, OnOk};
 ghost use Rattle.session_commands.specs.declared.command.SessionCommand.TheVariants.{AllWorkspaces, SelectTab, UserTitle, WindowApp, WindowBounds, WindowKind, Workspace};
-ghost use Rattle.compactor.specs.session.Compaction.{flagged, given, unusual, window_commands};
+ghost use Rattle.compaction_runs.specs.FieldCommands.{flagged, given, unusual};
+ghost use Rattle.compactor.specs.session.Compaction.{window_commands};
 
 use super::pairs;
 use pickle_cells::Blob;

@@ -1,26 +1,15 @@
 -- A compaction has at most as many commands as its weight says.
-use Rattle.std.proofs.Common.{◌≤◌, ℤ, pos, negsuc, Bool, true, false, cond, [], ◌∷◌, ◌++◌, map, flat_map, length, Option, Some, None, arith}
-use Rattle.std.specs.Ordering.{int_eq}
+use Rattle.std.proofs.Common.{◌≤◌, pos, negsuc, true, [], ◌++◌, map, flat_map, length, arith}
 use Rattle.std.proofs.lemmas.List.{length-append, length-map}
 use Rattle.std.proofs.lemmas.List.Concat.{length-flat_map}
 use Rattle.std.proofs.lemmas.List.Sums.{sum_by-le-sum_by}
-use Rattle.session_commands.specs.declared.command.SessionCommand.{SessionCommand}
 use Rattle.session_commands.specs.declared.command.SessionCommand.TheVariants.{GroupData, Extension, WindowApp, SessionStorage, Workspace, TabGuid, UserAgent, UserTitle, TabWindow, SelectNavigation, WindowKind, Pinned, WindowBounds, ActiveWindow, LastActive, TabGroup, AllWorkspaces}
 use Rattle.window_state.specs.declared.tab.Tab.{Tab}
 use Rattle.window_state.specs.declared.window.Window.{Window}
 use Rattle.window_state.specs.States.{State}
-use Rattle.compactor.specs.session.Compaction.{given, flagged, unusual, window_commands, tab_commands, compaction, window_weight, tab_weight, weight}
-
-few-given : {A : Type 0} (command : A → SessionCommand) (o : Option A) → length (given command o) ≤ 1
-few-given command None = omega arith
-few-given command (Some x) = omega arith
-
-few-flagged : (command : SessionCommand) (flag : Bool) → length (flagged command flag) ≤ 1
-few-flagged command true = omega arith
-few-flagged command false = omega arith
-
-few-unusual : (usual : ℤ) (command : ℤ → SessionCommand) (z : ℤ) → length (unusual usual command z) ≤ 1
-few-unusual usual command z = elim (int_eq z usual) as (λ b. length (cond b [] (command z ∷ [])) ≤ 1) [ true ↦ omega arith | false ↦ omega arith ]
+use Rattle.compaction_runs.specs.FieldCommands.{given}
+use Rattle.compaction_runs.proofs.Counts.{few-given, few-flagged, few-unusual}
+use Rattle.compactor.specs.session.Compaction.{window_commands, tab_commands, compaction, window_weight, tab_weight, weight}
 
 few_window : (w : Window) → length (window_commands w) ≤ window_weight w
 few_window w =

@@ -15,10 +15,12 @@ use Rattle.window_state.specs.Fits.{IsKeptTab, IsKeptWindow}
 use Rattle.window_state.specs.Keys.{tab_key, window_key, group_key, group_cmp}
 use Rattle.window_state.specs.States.{State, start, HasWindow, IsState}
 use Rattle.machine_law.specs.Kind.{fold}
+use Rattle.compaction_runs.specs.Runs.{Leads}
+use Rattle.compaction_runs.proofs.RunLaws.{followed, leads-given, leads-flat, leads-map}
+use Rattle.compaction_runs.proofs.Appended.{all-here, length-here}
 use Rattle.compactor.specs.session.Compaction.{window_commands, tab_commands, compaction}
 use Rattle.compactor.specs.session.SessionKind.{session_kind}
-use Rattle.compactor.specs.session.Laws.Appended.{all-here, length-here, behind-sorted, put-behind}
-use Rattle.compactor.specs.session.Laws.Runs.{Leads, followed, leads-given, leads-flat, leads-map}
+use Rattle.compactor.specs.session.Laws.AppendedRows.{behind-sorted, put-behind}
 use Rattle.compactor.specs.session.Laws.WindowRuns.{with_windows, leads-window}
 use Rattle.compactor.specs.session.Laws.TabRuns.{with_tabs, leads-tab}
 
@@ -38,10 +40,10 @@ group_greater x y is = by (nat_cmp x.high y.high) refl
     by Greater e = let no = rw e at is in absurd cc
 
 module _ (s : State) (is : IsState s) where
-  windows_part : Leads start (flat_map window_commands s.windows) (with_windows s.windows)
-  windows_part = leads-flat with_windows s.windows window_commands each
+  windows_part : Leads session_kind start (flat_map window_commands s.windows) (with_windows s.windows)
+  windows_part = leads-flat session_kind with_windows s.windows window_commands each
     where
-      each : (done rest : List Window) (w : Window) → done ++ w ∷ rest ≡ s.windows → Leads (with_windows done) (window_commands w) (with_windows (done ++ w ∷ []))
+      each : (done rest : List Window) (w : Window) → done ++ w ∷ rest ≡ s.windows → Leads session_kind (with_windows done) (window_commands w) (with_windows (done ++ w ∷ []))
       each done rest w whole =
           let few = is.kept.windows in
           let short = rw whole at (length-here done rest w) in
@@ -50,13 +52,13 @@ module _ (s : State) (is : IsState s) where
           (omega arith)
           (all-here IsKeptWindow done rest w (subst (AllByRecursion IsKeptWindow) (sym whole) is.kept.each_window)).distinct
 
-  tabs_part : Leads (with_windows s.windows) (flat_map tab_commands s.tabs) (with_tabs s.windows s.tabs)
-  tabs_part = leads-flat (with_tabs s.windows) s.tabs tab_commands each
+  tabs_part : Leads session_kind (with_windows s.windows) (flat_map tab_commands s.tabs) (with_tabs s.windows s.tabs)
+  tabs_part = leads-flat session_kind (with_tabs s.windows) s.tabs tab_commands each
     where
       here : (P : Tab → Type 0) (done rest : List Tab) (t : Tab) → done ++ t ∷ rest ≡ s.tabs → AllByRecursion P s.tabs → P t
       here P done rest t whole all = all-here P done rest t (subst (AllByRecursion P) (sym whole) all)
 
-      each : (done rest : List Tab) (t : Tab) → done ++ t ∷ rest ≡ s.tabs → Leads (with_tabs s.windows done) (tab_commands t) (with_tabs s.windows (done ++ t ∷ []))
+      each : (done rest : List Tab) (t : Tab) → done ++ t ∷ rest ≡ s.tabs → Leads session_kind (with_tabs s.windows done) (tab_commands t) (with_tabs s.windows (done ++ t ∷ []))
       each done rest t whole =
           let few = is.kept.tabs in
           let short = rw whole at (length-here done rest t) in
@@ -69,11 +71,11 @@ module _ (s : State) (is : IsState s) where
   abbrev with_groups : List GroupInfo → State
   with_groups groups = record { tabs = s.tabs; windows = s.windows; groups = groups; active = None }
 
-  groups_part : Leads (with_tabs s.windows s.tabs) (map (λ group. GroupData group) s.groups) (with_groups s.groups)
-  groups_part = leads-map with_groups s.groups (λ group. GroupData group)
+  groups_part : Leads session_kind (with_tabs s.windows s.tabs) (map (λ group. GroupData group) s.groups) (with_groups s.groups)
+  groups_part = leads-map session_kind with_groups s.groups (λ group. GroupData group)
       (λ done rest group whole. ap with_groups (put-behind group_cmp group_key group done
       (behind-sorted group_cmp group_key group_greater done rest group (subst (λ gs. IsStrictlySortedBy group_cmp (map group_key gs)) (sym whole) is.ordered.groups))))
 
   pub folds_back : fold session_kind start (compaction s) ≡ s
   folds_back = (followed (followed (followed windows_part tabs_part) groups_part)
-      (leads-given (λ window. ActiveWindow window) (λ active. record (with_groups s.groups) { active = active }) s.active (λ window _. refl))).to
+      (leads-given session_kind (λ window. ActiveWindow window) (λ active. record (with_groups s.groups) { active = active }) s.active (λ window _. refl))).to

@@ -17,9 +17,12 @@ use Rattle.tab_pages.specs.PageLists.{put_page}
 use Rattle.window_state.specs.Changes.{new_tab, new_window, set_pair}
 use Rattle.window_state.specs.States.{State, HasWindow, stands, on_tab, placed}
 use Rattle.window_state.proofs.StateLaws.{itself}
+use Rattle.compaction_runs.specs.Runs.{Leads}
+use Rattle.compaction_runs.proofs.RunLaws.{followed, leads-one, leads-given, leads-flagged, leads-unusual, leads-map}
+use Rattle.compaction_runs.proofs.Appended.{put-page-behind}
 use Rattle.compactor.specs.session.Compaction.{tab_commands}
-use Rattle.compactor.specs.session.Laws.Appended.{IsBehind, step-behind, step-last, step-standing, put-page-behind, set-pair-behind}
-use Rattle.compactor.specs.session.Laws.Runs.{Leads, followed, leads-one, leads-given, leads-flagged, leads-unusual, leads-map}
+use Rattle.compactor.specs.session.SessionKind.{session_kind}
+use Rattle.compactor.specs.session.Laws.AppendedRows.{IsBehind, step-behind, step-last, step-standing, set-pair-behind}
 use Rattle.compactor.specs.session.Laws.WindowRuns.{within-push}
 
 abbrev pub with_tabs : List Window → List Tab → State
@@ -49,7 +52,7 @@ tab_of id index window pages current pinned extension storage guid agent last_ac
 }
 
 pub leads-tab : (windows : List Window) → length windows ≤ limit → IsStrictlySortedBy int_cmp (map window_key windows) → (done : List Tab) (t : Tab) → IsBehind int_cmp tab_key t.info.id done → length done < limit
-    → HasWindow windows t → IsKeptTab t → Leads (with_tabs windows done) (tab_commands t) (with_tabs windows (done ++ t ∷ []))
+    → HasWindow windows t → IsKeptTab t → Leads session_kind (with_tabs windows done) (tab_commands t) (with_tabs windows (done ++ t ∷ []))
 leads-tab windows few sorted done t behind room has kept =
     let id = t.info.id in
     let i = t.info in
@@ -57,29 +60,29 @@ leads-tab windows few sorted done t behind room has kept =
     let so_far = tab_of id t.index in
     let change = changed windows few done id behind room in
     followed (followed (followed (followed (followed (followed (followed (followed (followed (followed (followed
-    (leads-one (with_tabs windows done) (state (so_far None [] (negsuc 0) false None None None None (pos 0) None [])) (TabIndex id t.index)
+    (leads-one session_kind (with_tabs windows done) (state (so_far None [] (negsuc 0) false None None None None (pos 0) None [])) (TabIndex id t.index)
     (made windows few done id behind room (λ x. record x { index = t.index })))
-    (leads-given (λ window. TabWindow window id) (λ window. state (so_far window [] (negsuc 0) false None None None None (pos 0) None [])) t.window
+    (leads-given session_kind (λ window. TabWindow window id) (λ window. state (so_far window [] (negsuc 0) false None None None None (pos 0) None [])) t.window
     (λ window is. in_window windows few done id behind room sorted window (subst (λ w. IfSome w (λ own. stands own windows ≡ true)) is has) (so_far None [] (negsuc 0) false None None None None (pos 0) None []) refl)))
-    (leads-map (λ pages. state (so_far t.window pages (negsuc 0) false None None None None (pos 0) None [])) t.pages (λ page. UpdateNavigation id page.0 page.1)
+    (leads-map session_kind (λ pages. state (so_far t.window pages (negsuc 0) false None None None None (pos 0) None [])) t.pages (λ page. UpdateNavigation id page.0 page.1)
     (λ before rest page whole. change (λ x. record x { pages = put_page page.0 page.1 x.pages }) (so_far t.window before (negsuc 0) false None None None None (pos 0) None []) refl
     ∙ ap (λ pages. state (so_far t.window pages (negsuc 0) false None None None None (pos 0) None [])) (put-page-behind t.pages before rest page kept.rising whole))))
-    (leads-unusual (negsuc 0) (λ index. SelectNavigation id index) (λ current. state (so_far t.window t.pages current false None None None None (pos 0) None [])) t.current
+    (leads-unusual session_kind (negsuc 0) (λ index. SelectNavigation id index) (λ current. state (so_far t.window t.pages current false None None None None (pos 0) None [])) t.current
     (change (λ x. record x { current = t.current }) (so_far t.window t.pages (negsuc 0) false None None None None (pos 0) None []) refl)))
-    (leads-flagged (Pinned id true) (λ pinned. state (so_far t.window t.pages t.current pinned None None None None (pos 0) None [])) i.pinned
+    (leads-flagged session_kind (Pinned id true) (λ pinned. state (so_far t.window t.pages t.current pinned None None None None (pos 0) None [])) i.pinned
     (change (λ x. record x { info = record x.info { pinned = true } }) (so_far t.window t.pages t.current false None None None None (pos 0) None []) refl)))
-    (leads-given (λ text. Extension id text []) (λ extension. state (so_far t.window t.pages t.current i.pinned extension None None None (pos 0) None [])) i.extension
+    (leads-given session_kind (λ text. Extension id text []) (λ extension. state (so_far t.window t.pages t.current i.pinned extension None None None (pos 0) None [])) i.extension
     (λ text _. change (λ x. record x { info = record x.info { extension = Some text } }) (so_far t.window t.pages t.current i.pinned None None None None (pos 0) None []) refl)))
-    (leads-given (λ text. SessionStorage id text []) (λ storage. state (so_far t.window t.pages t.current i.pinned i.extension storage None None (pos 0) None [])) i.storage
+    (leads-given session_kind (λ text. SessionStorage id text []) (λ storage. state (so_far t.window t.pages t.current i.pinned i.extension storage None None (pos 0) None [])) i.storage
     (λ text _. change (λ x. record x { info = record x.info { storage = Some text } }) (so_far t.window t.pages t.current i.pinned i.extension None None None (pos 0) None []) refl)))
-    (leads-given (λ text. TabGuid id text []) (λ guid. state (so_far t.window t.pages t.current i.pinned i.extension i.storage guid None (pos 0) None [])) i.guid
+    (leads-given session_kind (λ text. TabGuid id text []) (λ guid. state (so_far t.window t.pages t.current i.pinned i.extension i.storage guid None (pos 0) None [])) i.guid
     (λ text _. change (λ x. record x { info = record x.info { guid = Some text } }) (so_far t.window t.pages t.current i.pinned i.extension i.storage None None (pos 0) None []) refl)))
-    (leads-given (λ rest. UserAgent id rest) (λ agent. state (so_far t.window t.pages t.current i.pinned i.extension i.storage i.guid agent (pos 0) None [])) i.agent
+    (leads-given session_kind (λ rest. UserAgent id rest) (λ agent. state (so_far t.window t.pages t.current i.pinned i.extension i.storage i.guid agent (pos 0) None [])) i.agent
     (λ rest _. change (λ x. record x { info = record x.info { agent = Some rest } }) (so_far t.window t.pages t.current i.pinned i.extension i.storage i.guid None (pos 0) None []) refl)))
-    (leads-unusual (pos 0) (λ time. LastActive id time) (λ time. state (so_far t.window t.pages t.current i.pinned i.extension i.storage i.guid i.agent time None [])) i.last_active
+    (leads-unusual session_kind (pos 0) (λ time. LastActive id time) (λ time. state (so_far t.window t.pages t.current i.pinned i.extension i.storage i.guid i.agent time None [])) i.last_active
     (change (λ x. record x { info = record x.info { last_active = i.last_active } }) (so_far t.window t.pages t.current i.pinned i.extension i.storage i.guid i.agent (pos 0) None []) refl)))
-    (leads-given (λ group. TabGroup id group.high group.low true) (λ group. state (so_far t.window t.pages t.current i.pinned i.extension i.storage i.guid i.agent i.last_active group [])) i.group
+    (leads-given session_kind (λ group. TabGroup id group.high group.low true) (λ group. state (so_far t.window t.pages t.current i.pinned i.extension i.storage i.guid i.agent i.last_active group [])) i.group
     (λ group _. change (λ x. record x { info = record x.info { group = Some group } }) (so_far t.window t.pages t.current i.pinned i.extension i.storage i.guid i.agent i.last_active None []) refl)))
-    (leads-map (λ extra. state (so_far t.window t.pages t.current i.pinned i.extension i.storage i.guid i.agent i.last_active i.group extra)) i.extra (λ pair. TabExtra id pair.0 pair.1 [])
+    (leads-map session_kind (λ extra. state (so_far t.window t.pages t.current i.pinned i.extension i.storage i.guid i.agent i.last_active i.group extra)) i.extra (λ pair. TabExtra id pair.0 pair.1 [])
     (λ before rest pair whole. change (λ x. record x { info = record x.info { extra = set_pair pair.0 pair.1 x.info.extra } }) (so_far t.window t.pages t.current i.pinned i.extension i.storage i.guid i.agent i.last_active i.group before) refl
     ∙ ap (λ extra. state (so_far t.window t.pages t.current i.pinned i.extension i.storage i.guid i.agent i.last_active i.group extra)) (set-pair-behind i.extra before rest pair kept.distinct whole)))

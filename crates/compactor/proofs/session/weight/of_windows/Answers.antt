@@ -1,6 +1,6 @@
 use Rattle.std.proofs.Common.{sum_by}
 use Rattle.compactor.specs.session.Compaction.{window_weight}
-use Rattle.compactor.proofs.Weights.{all_added, greatest}
+use Rattle.compaction_runs.proofs.Weights.{all_added, greatest}
 use Rattle.compactor.proofs.session.weight.of_windows.Goals as goal
 
 pub returns : goal.returns

@@ -1,6 +1,6 @@
 use Rattle.std.proofs.Common.{◌≡◌, ◌+◌, ◌≤◌, min, sum_by}
 use Rattle.compactor.specs.session.Compaction.{window_weight}
-use Rattle.compactor.proofs.Weights.{greatest}
+use Rattle.compaction_runs.proofs.Weights.{greatest}
 use Rattle.compactor.proofs.session.weight.of_windows.Given as goal
 
 abbrev pub invariant-loop-window : goal.invariant-loop-window

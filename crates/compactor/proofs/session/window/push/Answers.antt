@@ -1,4 +1,4 @@
-use Rattle.compactor.proofs.Pieces.{more}
+use Rattle.compaction_runs.proofs.Pieces.{more}
 use Rattle.compactor.proofs.session.window.push.Goals as goal
 
 pub returns : goal.returns

@@ -1,14 +1,15 @@
 use Rattle.std.proofs.Common.{◌≡◌, sym, subst}
 use Rattle.std.specs.List.{AllByRecursion}
 use Rattle.std.proofs.lemmas.Result.{IfOk-weaker}
+use Rattle.compaction_runs.proofs.CommandLaws.{weaker}
 use Rattle.compactor.specs.session.Compaction.{compaction}
 use Rattle.compactor.specs.session.SessionKind.{IsCommand}
-use Rattle.compactor.specs.session.Laws.Plain.{plain, plain-of}
+use Rattle.compactor.specs.session.Laws.Plain.{IsPlain, plain}
 use Rattle.compactor.proofs.session.machine.SessionMachineMachine.compact.Goals as goal
 
 -- every command of the compaction can be written
 pub returns-clause-commands : goal.returns-clause-commands
 returns-clause-commands c =
     let state = c.args.state.now in
-    let writable = plain-of IsCommand (λ command plain. record { sound = plain.sound; ranged = plain.ranged }) (compaction state) (plain state c.known.ensures).all in
+    let writable = weaker IsPlain IsCommand (λ command plain. record { sound = plain.sound; ranged = plain.ranged }) (compaction state) (plain state c.known.ensures) in
     IfOk-weaker c.of.result (λ commands. commands.items ≡ compaction state) (λ commands. AllByRecursion IsCommand commands.items) (λ commands is. subst (AllByRecursion IsCommand) (sym is) writable) c.of.ensures

@@ -1,0 +1,2 @@
+pub mod FieldCommands
+pub mod Runs
