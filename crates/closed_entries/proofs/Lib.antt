@@ -1,0 +1,4 @@
+pub mod LastItemLaws
+pub mod StateLaws
+pub mod StepLaws
+mod WorkedSteps

@@ -1,0 +1,11 @@
+pub mod Limits
+pub mod LastItem
+pub mod Changes
+pub mod States
+pub mod Step
+pub mod Parts
+pub mod Shown
+pub use Rattle.tab_pages.specs.PageLists
+pub use Rattle.tab_pages.specs.Fits
+pub use Rattle.tab_pages.specs.Ranges
+pub use Rattle.tab_restore_commands.specs.Table
