@@ -7,7 +7,8 @@ use crate::words::Words;
 use compactor::SessionMachine;
 use navigation_entry::{Bounds, GroupInfo, Navigation};
 use std::alloc::{AllocError, Global};
-use window_state::{GroupId, Pages, Row, Rows, SessionState, Tab, TabInfo, Window, WindowInfo};
+use tab_pages::Pages;
+use window_state::{GroupId, Row, Rows, SessionState, Tab, TabInfo, Window, WindowInfo};
 
 /// The state after the commands in the lines, copied.
 pub(crate) fn states(alloc: Global, lines: &[Words<'_>]) -> Result<String, CaseFault> {

@@ -1,0 +1,2 @@
+pub mod LastEntryLaws
+mod WorkedCompactions

@@ -1,0 +1,3 @@
+pub mod Compaction
+pub mod TabsKind
+pub mod Laws
