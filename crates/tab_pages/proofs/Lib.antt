@@ -1,4 +1,8 @@
 pub mod PageLaws
+pub mod PartLaws
+pub mod JoinLaws
+pub mod CountLaws
 pub mod RangeLaws
 pub mod PositionLaws
+mod WorkedParts
 mod WorkedPrunings

@@ -1,5 +1,5 @@
 -- What lists of pages by rising index keep, and where a page stands in them.
-use Rattle.std.proofs.Common.{◌≡◌, ◌≢◌, ℕ, zero, suc, ◌<◌, ◌≤◌, ℤ, pos, ◌+ℤ◌, ◌-ℤ◌, ◌≤ℤ◌, ◌<ℤ◌, int_lt, Bool, true, false, not, List, [], ◌∷◌, ◌++◌, map, filter, length, take, drop, get_or, set, insert, refl, sym, ap, ◌∙◌, arith}
+use Rattle.std.proofs.Common.{◌≡◌, ◌≢◌, ℕ, zero, suc, ◌<◌, ◌≤◌, ℤ, pos, ◌+ℤ◌, ◌-ℤ◌, ◌≤ℤ◌, ◌<ℤ◌, int_lt, Bool, true, false, List, [], ◌∷◌, ◌++◌, map, filter, length, take, drop, get_or, set, insert, refl, sym, ap, ◌∙◌, arith}
 use Rattle.std.proofs.lemmas.Int.{ints}
 use Rattle.std.proofs.lemmas.List.{length-map}
 use Rattle.std.proofs.Math.Seq.{take-append_seam}
@@ -7,7 +7,7 @@ use Rattle.std.specs.Ordering.{int_cmp}
 use Rattle.std.specs.BTreeMap.{insert_entry}
 use Rattle.std.specs.List.Sorted.{IsPartitionPoint, IsPartitionedBy}
 use Rattle.navigation_entry.specs.declared.navigation.Navigation.{Navigation}
-use Rattle.tab_pages.specs.PageLists.{IsRising, is_natural, is_positive, is_pruned, lowered, place_of, prune, prune_front, put_page, shifted}
+use Rattle.tab_pages.specs.PageLists.{IsRising, is_natural, is_positive, is_pruned, place_of, prune, pruned, prune_front, put_page, shifted}
 
 -- an index in a place, against the bound and against a later one
 rising_from : (least : ℤ) (pages : List (ℤ × Navigation)) (j : ℕ) (d : ℤ × Navigation) → IsRising least pages → j < length pages → least ≤ℤ (get_or pages j d).0
@@ -96,9 +96,6 @@ rising-filter test least (p ∷ ps) r = by (rising-filter test (p.0 +ℤ pos 1) 
     by rest true e = rw e (r.0, rest)
     by rest false e = let first = r.0 in rw e (rising-weaken least (p.0 +ℤ pos 1) (filter test ps) (omega (arith, ints)) rest)
 
-abbrev pruned : ℤ → ℤ → List (ℤ × Navigation) → List (ℤ × Navigation)
-pruned first count pages = map (lowered first count) (filter (λ page. not (is_pruned first count page.0)) pages)
-
 -- behind the range all indices fall
 rising-behind : (first count least : ℤ) (pages : List (ℤ × Navigation)) → pos 0 <ℤ count → (first +ℤ count) ≤ℤ least → IsRising least pages → IsRising (least -ℤ count) (pruned first count pages)
 rising-behind first count least [] c h r = tt
@@ -175,7 +172,7 @@ rising-prune first count pages r = by (is_natural first) refl (is_positive count
     by false f b c = rw f r
 
 -- what a slice that was written leaves in its vector
-pub written_over : (f : ℤ × Navigation → ℤ × Navigation) (items written : List (ℤ × Navigation)) (len : ℕ) → len ≡ length items → written ≡ map f items → take len (written ++ drop (length written) items) ≡ map f items
+pub written_over : {X : Type 0} (f : X → X) (items written : List X) (len : ℕ) → len ≡ length items → written ≡ map f items → take len (written ++ drop (length written) items) ≡ map f items
 written_over f items written len same w =
     let long : len ≡ length written = same ∙ sym (ap length w ∙ length-map items f) in
     rw long (take-append_seam written (drop (length written) items) ∙ w)

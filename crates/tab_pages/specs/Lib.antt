@@ -1,4 +1,5 @@
 pub mod PageLists
+pub mod PartLists
 pub mod Positions
 pub mod Ranges
 pub mod Fits

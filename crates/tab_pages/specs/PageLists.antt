@@ -38,7 +38,10 @@ shifted count page = (page.0 -ℤ count, page.1)
 
 -- each index falls by a positive count, and negative ones go
 abbrev pub prune_front : ℤ → List (ℤ × Navigation) → List (ℤ × Navigation)
-prune_front count pages = if is_positive count then filter (λ page. is_natural page.0) (map (shifted count) pages) else pages
+prune_front count pages =
+    if is_positive count
+    then filter (λ page. is_natural page.0) (map (shifted count) pages)
+    else pages
 
 -- an index among so many from a first one on
 abbrev pub is_pruned : ℤ → ℤ → ℤ → Bool
@@ -49,8 +52,9 @@ abbrev pub lowered : ℤ → ℤ → ℤ × Navigation → ℤ × Navigation
 lowered first count page = (if int_lt first page.0 then page.0 -ℤ count else page.0, page.1)
 
 -- so many indices from a first one on go, and later ones fall by their number
+abbrev pub pruned : ℤ → ℤ → List (ℤ × Navigation) → List (ℤ × Navigation)
+pruned first count pages = map (lowered first count) (filter (λ page. not (is_pruned first count page.0)) pages)
+
+-- the same where the first index isn't negative and the count is positive
 abbrev pub prune : ℤ → ℤ → List (ℤ × Navigation) → List (ℤ × Navigation)
-prune first count pages =
-    if is_natural first && is_positive count
-    then map (lowered first count) (filter (λ page. not (is_pruned first count page.0)) pages)
-    else pages
+prune first count pages = if is_natural first && is_positive count then pruned first count pages else pages

@@ -9,11 +9,14 @@
 //! ```
 #![tactic(auto)]
 
+mod page_iter;
 mod page_vec;
 mod pages;
+mod part;
+mod parts;
 pub mod position;
 pub mod ranges;
 pub mod text;
 
-pub use page_vec::Page;
+pub use page_iter::PageIter;
 pub use pages::Pages;

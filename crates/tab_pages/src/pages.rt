@@ -1,37 +1,37 @@
 //! The pages of a tab.
 ghost use Rattle.std.specs.Prelude.{ℤ, ◌≡◌, ◌<◌, ◌≤ℤ◌, ◌↔◌, pos, [], length, map, slice_get, Some, IsTrue, IfOk, OnOk, OnErr};
-ghost use Rattle.std.specs.Iterator.Adapters.{IterYieldsInOrder};
-ghost use Rattle.std.specs.Slice.Iter.{iter_rest};
 ghost use Rattle.std.specs.Ordering.{int_cmp};
 ghost use Rattle.std.specs.BTreeMap.{insert_entry};
 ghost use Rattle.tab_pages.specs.PageLists.{IsRising, prune, prune_back, prune_front};
 ghost use Rattle.tab_pages.specs.Positions.{first_from};
-ghost use Rattle.navigation_entry.specs.declared.navigation.Navigation.{Navigation};
 
-use crate::page_vec;
-use crate::page_vec::Page;
+use crate::page_iter::PageIter;
+use crate::part::Part;
+use crate::parts;
 use navigation_entry::Navigation;
 use std::alloc::{AllocError, Global};
 use std::marker::Model;
-use std::slice::Iter;
 
-/// Pages by rising index, none negative. It holds one vector and the pages' texts: a look-up of an index takes time
-/// in the logarithm of the number of pages, a page that is put in before others, or a pruning, in that number.
+/// Pages by rising index, none negative. They stand in parts, and a part is full where it has 256 pages and one for
+/// each part. A put, a pruning, the number of pages and a look-up look at each part and at the pages of few, so after n
+/// puts they take time in the square root of n, and a pruning also in the number of pages that go. A put behind all
+/// other pages takes constant time in the mean, and a pruning that begins behind them constant time.
 #[derive(Drop)]
 pub struct Pages {
-    pages: Vec<Page>,
+    parts: Vec<Part>,
 }
 
 impl Model for Pages {
     ghost use Rattle.std.specs.Prelude.{ℤ, pos, List};
     ghost use Rattle.navigation_entry.specs.declared.navigation.Navigation.{Navigation};
     ghost use Rattle.tab_pages.specs.PageLists.{IsRising};
+    ghost use Rattle.tab_pages.specs.PartLists.{joined};
 
     ghost Value = { List (ℤ × Navigation) };
 
-    ghost view = { λ p. p.pages.items };
+    ghost view = { λ p. joined p.parts.items };
 
-    ghost invariant = { λ p. IsRising (pos 0) p.pages.items };
+    ghost invariant = { λ p. IsRising (pos 0) (joined p.parts.items) };
 }
 
 impl Pages {
@@ -40,7 +40,7 @@ impl Pages {
         ensures { result ≡ [] }
     {
         Pages {
-            pages: Vec::new(alloc),
+            parts: Vec::new(alloc),
         }
     }
 
@@ -48,21 +48,20 @@ impl Pages {
         ensures length { result ≡ length self.now }
         ensures rising { IsRising (pos 0) self.now }
     {
-        self.pages.len()
+        parts::count(self.parts.as_slice())
     }
 
     pub fn is_empty(&self) -> bool
         ensures { IsTrue result ↔ (self.now ≡ []) }
     {
-        self.pages.is_empty()
+        self.len() == 0
     }
 
-    /// The pages by rising index, each behind its index. It takes no memory.
-    pub fn iter(&self) -> Iter<'_, Page>
-        ensures rest { iter_rest result ≡ self.now }
-        ensures runs { IterYieldsInOrder (ℤ × Navigation) }
+    /// The pages by rising index, each behind its index. It takes no memory, and constant time a page in the mean.
+    pub fn iter(&self) -> PageIter<'_>
+        ensures { result ≡ self.now }
     {
-        self.pages.iter()
+        PageIter::new(self.parts.as_slice())
     }
 
     /// The page at a place, with its index.
@@ -70,22 +69,21 @@ impl Pages {
         requires { place < length self.now }
         ensures { slice_get self.now place ≡ Some (result.0, result.1.now) }
     {
-        let page = &self.pages[place];
-        (page.0, &page.1)
+        parts::at(self.parts.as_slice(), place)
     }
 
     /// The position of the first page whose index is at least this, else the last position; 0 where there are none.
     pub fn first_from(&self, index: i32) -> u32
         ensures { result ≡ first_from index (map (λ page. page.0) self.now) }
     {
-        page_vec::first_from(self.pages.as_slice(), index)
+        parts::first_from(self.parts.as_slice(), index)
     }
 
     /// The pages without their indices, in memory of their own.
     pub fn navigations(&self) -> Result<Vec<Navigation>, AllocError>
         ensures { IfOk result (λ v. v.items ≡ map (λ page. page.1) self.now) }
     {
-        page_vec::navigations(*self.pages.allocator(), self.pages.as_slice())
+        parts::navigations(*self.parts.allocator(), self.parts.as_slice())
     }
 
     /// The page at the index is replaced, or put in by its index.
@@ -94,14 +92,14 @@ impl Pages {
         ensures ok { OnOk result (self.new ≡ insert_entry int_cmp self.old index navigation) }
         ensures err { OnErr result (self.new ≡ self.old) }
     {
-        page_vec::put(&mut self.pages, index, navigation)
+        parts::put(&mut self.parts, index, navigation)
     }
 
     /// Pages from this index on go. It takes no memory.
     pub fn prune_back(&mut self, index: i32)
         ensures { self.new ≡ prune_back index self.old }
     {
-        page_vec::prune_back(&mut self.pages, index);
+        parts::prune_back(&mut self.parts, index);
     }
 
     /// Each index falls by a positive count, and those that become negative go. It takes no memory.
@@ -109,7 +107,7 @@ impl Pages {
         ensures { self.new ≡ prune_front count self.old }
     {
         if count > 0 {
-            page_vec::prune(&mut self.pages, 0, count);
+            parts::prune(&mut self.parts, 0, count);
         }
     }
 
@@ -122,7 +120,7 @@ impl Pages {
             return;
         }
         if count > 0 {
-            page_vec::prune(&mut self.pages, index, count);
+            parts::prune(&mut self.parts, index, count);
         }
     }
 
@@ -130,7 +128,7 @@ impl Pages {
     pub fn copy(&self) -> Result<Pages, AllocError>
         ensures { IfOk result (λ p. p ≡ self.now) }
     {
-        let pages = page_vec::copy(*self.pages.allocator(), self.pages.as_slice())?;
-        Ok(Pages { pages })
+        let parts = parts::copy(*self.parts.allocator(), self.parts.as_slice())?;
+        Ok(Pages { parts })
     }
 }
