@@ -33,9 +33,9 @@ use Rattle.session_drive.specs.Words.{Options, options}
 use Rattle.session_drive.proofs.CourseLaws.{tied_more, not_last, is_last, newest_own, newest_same, fresh_more, made_due, made_not_due, over_needs, within_fits, goes_same, goes_fresh, meets, after_append, stays_long, stays_last}
 
 -- an answer that is some refusal
-pub refused_as : {T : Type 0} (P : Result T JournalFault → Type 0) (result : Result T JournalFault) (why : JournalFault) → IsErrAnd result (λ e. e ≡ why) → P (Err why) → P result
+pub refused_as : {T E : Type 0} (P : Result T E → Type 0) (result : Result T E) (why : E) → IsErrAnd result (λ e. e ≡ why) → P (Err why) → P result
 refused_as P (Ok x) why is h = absurd is
-refused_as {T} P (Err e) why is h = subst (λ (f : JournalFault). P (Err f)) (sym is) h
+refused_as {T} {E} P (Err e) why is h = subst (λ (f : E). P (Err f)) (sym is) h
 
 -- on every disk
 

@@ -4,5 +4,8 @@ pub mod CourseLaws
 pub mod LineLaws
 pub mod IssueLaws
 pub mod ScriptLaws
+pub mod CauseLaws
 pub mod OutputLaws
-pub mod StepLaws
+pub mod OpeningLaws
+pub mod FirstLaws
+pub mod RunLaws

@@ -21,7 +21,8 @@ meets_last (Some greatest) made = greatest + made == 2 ^ 63 - 1
 -- more where the clock doesn't pass it.
 abbrev pub IsTied : Option ℕ → ℕ → ℕ → Type 0
 IsTied None made stamp = stamp ≤ 2 ^ 62 + made
-IsTied (Some greatest) made stamp = (greatest < stamp) × (greatest + made ≤ stamp) × (stamp ≤ max (2 ^ 62) greatest + made)
+IsTied (Some greatest) made stamp =
+    (greatest < stamp) × (greatest + made ≤ stamp) × (stamp ≤ max (2 ^ 62) greatest + made)
 
 module _ {S C : Type 0} (kind : Kind S C) (options : Options) (greatest : Option ℕ) where
   -- by what the next account would be, after so many creations

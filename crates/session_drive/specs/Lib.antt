@@ -1,11 +1,16 @@
 pub mod Words
 pub mod Issued
+pub mod Families
 pub mod Shown
 pub mod Course
 pub mod Issuing
+pub mod Opening
+pub mod FirstRefusal
 pub mod Outcome
 pub mod Printed
+pub mod Causes
 pub mod Run
+pub mod Journals
 pub mod Steps
 pub use Rattle.script_lines.specs.Lines
 pub use Rattle.script_lines.specs.TabLine

@@ -8,7 +8,9 @@ use Rattle.session_drive.specs.declared.status.Status.TheVariants.{Done, Usage, 
 use Rattle.session_drive.specs.declared.status.Long.{Long}
 use Rattle.session_drive.specs.declared.status.Why.TheVariants.{NotBuilt}
 use Rattle.session_drive.specs.declared.status.Long.TheVariants.{Script, File}
-use Rattle.session_drive.specs.Issued.{issued, refused_line}
+use Rattle.session_drive.specs.declared.shown.Counts.{Counts}
+use Rattle.session_drive.specs.Issued.{refused_line}
+use Rattle.session_drive.specs.Families.{issued_to}
 
 -- the process's exit code
 abbrev pub code : Status → ℕ
@@ -30,9 +32,11 @@ abbrev pub long_name : Long → List ℕ
 long_name Script = codes "script"
 long_name (File family) = family_name family
 
--- the line of a start: how many windows, how many tabs, no closed entry
-abbrev pub start_line : ℕ → ℕ → List ℕ
-start_line windows tabs = codes "start " ++ (decimal windows ++ (codes " " ++ (decimal tabs ++ codes " 0\n")))
+-- the line of a start: how many windows, tabs and closed entries
+abbrev pub start_line : Counts → List ℕ
+start_line counts =
+    codes "start " ++ (decimal counts.windows ++ (codes " " ++ (decimal counts.tabs ++ (codes " "
+    ++ (decimal counts.entries ++ codes "\n")))))
 
 -- the last line; after a failed write there is none
 abbrev pub last_line : Status → List ℕ
@@ -42,17 +46,19 @@ last_line (Refused line NotBuilt) = codes "refused " ++ (decimal line ++ codes "
 last_line (Disk family) = codes "fault disk " ++ (family_name family ++ codes "\n")
 last_line Read = codes "fault read\n"
 last_line Write = []
-last_line (TooLong what needed) = codes "fault too-long " ++ (long_name what ++ (codes " " ++ (decimal needed ++ codes "\n")))
+last_line (TooLong what needed) =
+    codes "fault too-long " ++ (long_name what ++ (codes " " ++ (decimal needed ++ codes "\n")))
 last_line Memory = codes "fault memory\n"
-last_line (LastStamp family stamp) = codes "fault last-stamp " ++ (family_name family ++ (codes " " ++ (decimal stamp ++ codes "\n")))
+last_line (LastStamp family stamp) =
+    codes "fault last-stamp " ++ (family_name family ++ (codes " " ++ (decimal stamp ++ codes "\n")))
 
--- the answer to a script in which nothing fails
-abbrev pub answer_of : Option ℕ → ℕ → Status
-answer_of (Some line) commands = Refused line NotBuilt
-answer_of None commands = Done commands 0
+-- the answer to a script in which nothing fails, with the numbers of commands
+abbrev pub answer_of : Option ℕ → ℕ → ℕ → Status
+answer_of (Some line) session tabs = Refused line NotBuilt
+answer_of None session tabs = Done session tabs
 
 abbrev pub answer_to : List ℕ → Status
-answer_to text = answer_of (refused_line text) (length (issued text))
+answer_to text = answer_of (refused_line text) (length (issued_to Session text)) (length (issued_to Tabs text))
 
 -- some prefix of what is to be said
 abbrev pub IsPrefix : List ℕ → List ℕ → Type 0

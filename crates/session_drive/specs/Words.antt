@@ -30,14 +30,16 @@ abbrev pub with_every : Given → List ℕ → Option Given
 with_every given word = option_and_then (λ n. Some (record given { every = Some n })) (number_once given.every word)
 
 abbrev pub with_max_file : Given → List ℕ → Option Given
-with_max_file given word = option_and_then (λ n. Some (record given { max_file = Some n })) (number_once given.max_file word)
+with_max_file given word =
+    option_and_then (λ n. Some (record given { max_file = Some n })) (number_once given.max_file word)
 
 -- a limit is from 1 to 2 ^ 40
 abbrev pub is_limit : ℕ → Bool
 is_limit n = nat_lt 0 n && nat_le n (2 ^ 40)
 
 abbrev pub within : ℕ → ℕ → Option Options
-within every max_file = if is_limit every && is_limit max_file then Some (record { every = every; max_file = max_file }) else None
+within every max_file =
+    if is_limit every && is_limit max_file then Some (record { every = every; max_file = max_file }) else None
 
 -- what was given, and the defaults for the rest
 abbrev pub chosen : Given → Option Options
@@ -48,9 +50,12 @@ abbrev pub options_behind : Given → List (List ℕ) → Option Options
 options_behind given [] = None
 options_behind given (folder ∷ []) = if is_folder folder then chosen given else None
 options_behind given (word ∷ next ∷ words) =
-    if bytes_eq word (codes "--inline") then option_and_then (λ more. options_behind more (next ∷ words)) (with_inline given)
-    else (if bytes_eq word (codes "--every") then option_and_then (λ more. options_behind more words) (with_every given next)
-    else (if bytes_eq word (codes "--max-file") then option_and_then (λ more. options_behind more words) (with_max_file given next)
+    if bytes_eq word (codes "--inline") then
+    option_and_then (λ more. options_behind more (next ∷ words)) (with_inline given)
+    else (if bytes_eq word (codes "--every") then
+    option_and_then (λ more. options_behind more words) (with_every given next)
+    else (if bytes_eq word (codes "--max-file") then
+    option_and_then (λ more. options_behind more words) (with_max_file given next)
     else None))
 
 abbrev pub nothing_given : Given

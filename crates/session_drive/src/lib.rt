@@ -1,5 +1,5 @@
-//! One run of a script over the journal of a session: the words, the script, the commands of its lines, and what is
-//! printed. The outside comes in as values.
+//! One run of a script over the journals of both families: the words, the script, the commands of its lines, and what
+//! is printed. The outside comes in as values.
 //!
 //! ```
 //! let mut words = Vec::new(alloc);
@@ -22,6 +22,7 @@
 
 mod drive;
 mod issuing;
+mod journals;
 mod shown;
 mod status;
 mod words;

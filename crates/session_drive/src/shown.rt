@@ -1,29 +1,38 @@
-//! How many windows and tabs a user sees of a state.
+//! How many windows and tabs a user sees of a session, and how many entries are closed.
 //! A tab without pages isn't seen, nor is a window without such tabs.
 ghost use Rattle.std.specs.Prelude.{◌≡◌, ◌<◌, ◌^◌, IfOk};
+ghost use Rattle.session_disk.specs.declared.family.Family.TheVariants.{Session, Tabs};
 ghost use Rattle.session_drive.specs.Shown.{tab_count, Shows};
 
+use closed_entries::ClosedState;
 use std::alloc::{AllocError, Global};
 use window_state::{SessionState, ViewWindow, view};
 
-/// The windows and the tabs of a view.
+/// The windows and the tabs of a view, and the closed entries.
 #[derive(Clone, Copy, Debug, PartialEq, Eq)]
 pub(crate) struct Counts {
     pub windows: u64,
     pub tabs: u64,
+    pub entries: u64,
 }
 
-/// What is shown of a state. It takes the time and memory of its view.
+/// What is shown of both states. It takes the time and memory of the session's view.
 #[tactic(auto, using(crate::proofs::ShownLaws::few_tabs))]
-pub(crate) fn shown_counts(alloc: Global, state: &SessionState) -> Result<Counts, AllocError>
-    ensures { IfOk result (λ counts. Shows state.now counts.windows counts.tabs) }
+pub(crate) fn shown_counts(
+    alloc: Global,
+    session: &SessionState,
+    closed: &ClosedState,
+) -> Result<Counts, AllocError>
+    ensures session { IfOk result (Shows Session session.now) }
+    ensures closed { IfOk result (Shows Tabs closed.now) }
 {
-    state.known();
-    let view = view(alloc, state)?;
+    session.known();
+    let view = view(alloc, session)?;
     let windows = view.windows.as_slice();
     Ok(Counts {
         windows: windows.len() as u64,
         tabs: count_tabs(windows),
+        entries: closed.entries().len() as u64,
     })
 }
 

@@ -3,6 +3,7 @@ ghost use Rattle.std.specs.Prelude.{◌≡◌, IfOk, IsOk};
 ghost use Rattle.std.specs.String.{string_bytes};
 ghost use Rattle.session_drive.specs.Outcome.{family_name, start_line};
 
+use crate::shown::Counts;
 use session_disk::Family;
 use std::alloc::{AllocError, Global};
 
@@ -127,9 +128,14 @@ fn family_name(family: Family) -> &'static str
     }
 }
 
-/// The line of a start with these many windows and tabs, with its line feed.
-pub(crate) fn start_line(alloc: Global, windows: u64, tabs: u64) -> Result<String, AllocError>
-    ensures { IfOk result (λ line. string_bytes line ≡ start_line windows tabs) }
+/// The line of a start with these counts, with its line feed.
+pub(crate) fn start_line(alloc: Global, counts: Counts) -> Result<String, AllocError>
+    ensures { IfOk result (λ line. string_bytes line ≡ start_line counts) }
 {
-    format!(in alloc; "start {windows} {tabs} 0\n")
+    let Counts {
+        windows,
+        tabs,
+        entries,
+    } = counts;
+    format!(in alloc; "start {windows} {tabs} {entries}\n")
 }

@@ -1,45 +1,88 @@
-use Rattle.std.proofs.Common.{[], ◌++◌, ◌<◌, ◌^◌, ℕ, Option, Result, length, arith}
+use Rattle.std.proofs.Common.{◌≡◌, [], ◌<◌, ◌^◌, ℕ, IfErr, Option, Result, length, arith, ◌∙◌}
+use Rattle.session_disk.specs.declared.family.Family.TheVariants.{Session, Tabs}
 use Rattle.log_writer.specs.Log.{log}
-use Rattle.log_writer.specs.declared.fault.JournalFault.{JournalFault}
+use Rattle.session_drive.specs.declared.journals.Stopped.{Stopped}
+use Rattle.session_drive.specs.Families.{kind_of, issued_to}
 use Rattle.session_drive.specs.Issued.{issued}
-use Rattle.session_drive.specs.Issuing.{IssueAnswers, RunEnds}
+use Rattle.session_drive.specs.Issuing.{HoldsCommands, LeftSince}
+use Rattle.session_drive.specs.Journals.{StopsScript, WhereOpened, logs}
+use Rattle.session_drive.specs.Opening.{disks}
 use Rattle.session_drive.proofs.LineLaws.{length_issued}
-use Rattle.session_drive.proofs.IssueLaws.{refused_as, later_then, answers_since, answers_refused, sync_refused, sync_tells}
-use Rattle.log_writer.specs.Answers.{sync_call}
+use Rattle.session_drive.proofs.IssueLaws.{refused_as, answers_since}
+use Rattle.session_drive.proofs.RunLaws.{each, stops_as}
 use Rattle.session_drive.proofs.issuing.issue_script.Goals as goal
 
-pub returns-in_err-refused-clause-answers : goal.returns-in_err-refused-clause-answers
-returns-in_err-refused-clause-answers g c =
-    refused_as (λ (r : Result (Option ℕ) JournalFault). IssueAnswers (length (issued c.args.text.now)) c.args.journal.now c.issue_lines.new.journal r) c.from_residual.result _ c.from_residual.ensures.1
-    c.in_err-refused.ensures.answers
+pub returns-in-Err-clause-stops : goal.returns-in-Err-clause-stops
+returns-in-Err-clause-stops g c = record {
+  cause = c.in-Err.ensures.answers;
+  stops = λ modelled b limited on. (c.in-Err.ensures.issues modelled b [] limited (omega (arith, c.requires.short, length_issued c.args.text.now)) on).stops;
+}
 
-pub returns-in_err-refused-clause-issues : goal.returns-in_err-refused-clause-issues
-returns-in_err-refused-clause-issues g c = λ modelled b limits on.
-    let few : length ([] ++ issued c.args.text.now) < 2 ^ 61 = omega (arith, c.requires.short, length_issued c.args.text.now) in
-    refused_as (λ (r : Result (Option ℕ) JournalFault). RunEnds b c.issue_lines.new.journal (issued c.args.text.now) r) c.from_residual.result _ c.from_residual.ensures.1
-    (c.in_err-refused.ensures.issues modelled b [] limits few on)
+pub returns-in-Err-clause-crash : goal.returns-in-Err-clause-crash
+returns-in-Err-clause-crash g c =
+    each (λ family. WhereOpened g.D.SessionDisk.modelled c.args.text.now (logs c.args.journals.now) (disks g.D.SessionDisk.history g.D.SessionDisk.failed c.issue_lines.new.journal.disk c.args.journals.now.tabs.disk) family
+    (λ b. LeftSince (kind_of family) b (disks g.D.SessionDisk.history g.D.SessionDisk.failed c.issue_lines.new.journal.disk c.args.journals.now.tabs.disk family).history (issued_to family c.args.text.now)))
+    (λ modelled b limited on. (c.in-Err.ensures.issues modelled b [] limited (omega (arith, c.requires.short, length_issued c.args.text.now)) on).left)
+    (λ modelled b limited on. on.left)
 
-pub returns-in_err-sync-clause-later : goal.returns-in_err-sync-clause-later
-returns-in_err-sync-clause-later g c = later_then _ _ _ c.issue_lines.ensures.later c.sync.ensures.later
+pub returns-in_err-sync_journal-clause-stops : goal.returns-in_err-sync_journal-clause-stops
+returns-in_err-sync_journal-clause-stops g c =
+    let exit = disks g.D.SessionDisk.history g.D.SessionDisk.failed c.sync_journal.new.journal.disk c.args.journals.now.tabs.disk in
+    refused_as (λ (r : Result (Option ℕ) Stopped). IfErr r (StopsScript g.D.SessionDisk.modelled c.args.text.now (logs c.args.journals.now) exit)) c.from_residual.result _ c.from_residual.ensures.1
+    (stops_as g.D.SessionDisk.modelled c.args.text.now (logs c.args.journals.now) exit _ Session c.in_err-sync_journal.ensures.family (record {
+      cause = answers_since (Unit {0}) 0 0 (log c.args.journals.now.session) (log c.issue_lines.new.journal) (log c.sync_journal.new.journal) _ c.issue_lines.ensures.later c.in_err-sync_journal.ensures.answers;
+      stops = λ modelled b limited on.
+          let few : length (issued c.args.text.now) < 2 ^ 61 = omega (arith, c.requires.short, length_issued c.args.text.now) in
+          (c.in_err-sync_journal.ensures.syncs modelled b (issued c.args.text.now) few (c.in-Ok.ensures.issues modelled b [] limited few on)).stops;
+    }))
 
-pub returns-in_err-sync-clause-answers : goal.returns-in_err-sync-clause-answers
-returns-in_err-sync-clause-answers g c =
-    refused_as (λ (r : Result (Option ℕ) JournalFault). IssueAnswers (length (issued c.args.text.now)) c.args.journal.now c.sync.new.self r) c.from_residual-in_err-sync.result _ c.from_residual-in_err-sync.ensures.1
-    (answers_since (Option ℕ) 0 (length (issued c.args.text.now)) (log c.args.journal.now) (log c.issue_lines.new.journal) (log c.sync.new.self) _ c.issue_lines.ensures.later
-    (answers_refused (Option ℕ) sync_call 0 (log c.issue_lines.new.journal) (log c.sync.new.self) _ c.in_ok-refused.ensures.answers.0 c.in_err-sync.ensures.answers))
+pub returns-in_err-sync_journal-clause-crash : goal.returns-in_err-sync_journal-clause-crash
+returns-in_err-sync_journal-clause-crash g c =
+    let exit = disks g.D.SessionDisk.history g.D.SessionDisk.failed c.sync_journal.new.journal.disk c.args.journals.now.tabs.disk in
+    each (λ family. WhereOpened g.D.SessionDisk.modelled c.args.text.now (logs c.args.journals.now) exit family (λ b. LeftSince (kind_of family) b (exit family).history (issued_to family c.args.text.now)))
+    (λ modelled b limited on.
+    let few : length (issued c.args.text.now) < 2 ^ 61 = omega (arith, c.requires.short, length_issued c.args.text.now) in
+    (c.in_err-sync_journal.ensures.syncs modelled b (issued c.args.text.now) few (c.in-Ok.ensures.issues modelled b [] limited few on)).left)
+    (λ modelled b limited on. on.left)
 
-pub returns-in_err-sync-clause-issues : goal.returns-in_err-sync-clause-issues
-returns-in_err-sync-clause-issues g c = λ modelled b limits on.
-    let few : length ([] ++ issued c.args.text.now) < 2 ^ 61 = omega (arith, c.requires.short, length_issued c.args.text.now) in
-    refused_as (λ (r : Result (Option ℕ) JournalFault). RunEnds b c.sync.new.self (issued c.args.text.now) r) c.from_residual-in_err-sync.result _ c.from_residual-in_err-sync.ensures.1
-    (sync_refused c.issue_lines.new.journal c.sync.new.self b (issued c.args.text.now) _ modelled c.in_ok-refused.ensures.answers.0 (c.in_ok-refused.ensures.issues modelled b [] limits few on) c.in_err-sync.ensures.answers c.sync.ensures.crash)
+pub returns-in_err-sync_journal-2-clause-stops : goal.returns-in_err-sync_journal-2-clause-stops
+returns-in_err-sync_journal-2-clause-stops g c =
+    let exit = disks g.D.SessionDisk.history g.D.SessionDisk.failed c.sync_journal.new.journal.disk c.sync_journal-2.new.journal.disk in
+    refused_as (λ (r : Result (Option ℕ) Stopped). IfErr r (StopsScript g.D.SessionDisk.modelled c.args.text.now (logs c.args.journals.now) exit)) c.from_residual-in_err-sync_journal-2.result _ c.from_residual-in_err-sync_journal-2.ensures.1
+    (stops_as g.D.SessionDisk.modelled c.args.text.now (logs c.args.journals.now) exit _ Tabs c.in_err-sync_journal-2.ensures.family (record {
+      cause = c.in_err-sync_journal-2.ensures.answers;
+      stops = λ modelled b limited on. (c.in_err-sync_journal-2.ensures.syncs modelled b [] (omega arith) on).stops;
+    }))
 
-pub returns-clause-later : goal.returns-clause-later
-returns-clause-later g c = later_then _ _ _ c.issue_lines.ensures.later c.sync.ensures.later
+pub returns-in_err-sync_journal-2-clause-crash : goal.returns-in_err-sync_journal-2-clause-crash
+returns-in_err-sync_journal-2-clause-crash g c =
+    let exit = disks g.D.SessionDisk.history g.D.SessionDisk.failed c.sync_journal.new.journal.disk c.sync_journal-2.new.journal.disk in
+    each (λ family. WhereOpened g.D.SessionDisk.modelled c.args.text.now (logs c.args.journals.now) exit family (λ b. LeftSince (kind_of family) b (exit family).history (issued_to family c.args.text.now)))
+    (λ modelled b limited on.
+    let few : length (issued c.args.text.now) < 2 ^ 61 = omega (arith, c.requires.short, length_issued c.args.text.now) in
+    (c.in_ok-sync_journal.ensures.syncs modelled b (issued c.args.text.now) few (c.in-Ok.ensures.issues modelled b [] limited few on)).1)
+    (λ modelled b limited on. (c.in_err-sync_journal-2.ensures.syncs modelled b [] (omega arith) on).left)
 
-pub returns-clause-issues : goal.returns-clause-issues
-returns-clause-issues g c = λ modelled b limits on.
-    let few : length ([] ++ issued c.args.text.now) < 2 ^ 61 = omega (arith, c.requires.short, length_issued c.args.text.now) in
-    let unit : Unit {0} = tt in
-    sync_tells c.issue_lines.new.journal c.sync.new.self unit b (issued c.args.text.now) modelled c.in_ok-refused.ensures.answers.0 few (c.in_ok-refused.ensures.issues modelled b [] limits few on) c.in_ok-sync.ensures.told
-    c.in_ok-sync.ensures.follows c.in_ok-sync.ensures.at_rest c.sync.ensures.crash
+pub returns-clause-takes : goal.returns-clause-takes
+returns-clause-takes g c =
+    each (λ family. (logs {D = g.row.D.Denot} {d = g.D.SessionDisk} (record { session = c.sync_journal.new.journal; tabs = c.sync_journal-2.new.journal }) family).present.count ≡ length (issued_to family c.args.text.now))
+    (omega (arith, c.requires.short, length_issued c.args.text.now, c.requires.session_empty, c.sync_journal.ensures.count, c.in-Ok.ensures.answers.1))
+    (c.sync_journal-2.ensures.count ∙ c.requires.tabs_empty)
+
+pub returns-clause-holds : goal.returns-clause-holds
+returns-clause-holds g c =
+    let exit = disks g.D.SessionDisk.history g.D.SessionDisk.failed c.sync_journal.new.journal.disk c.sync_journal-2.new.journal.disk in
+    each (λ family. WhereOpened g.D.SessionDisk.modelled c.args.text.now (logs c.args.journals.now) exit family (λ b. HoldsCommands (kind_of family) b (exit family).history (issued_to family c.args.text.now)))
+    (λ modelled b limited on.
+    let few : length (issued c.args.text.now) < 2 ^ 61 = omega (arith, c.requires.short, length_issued c.args.text.now) in
+    (c.in_ok-sync_journal.ensures.syncs modelled b (issued c.args.text.now) few (c.in-Ok.ensures.issues modelled b [] limited few on)).0)
+    (λ modelled b limited on. (c.in_ok-sync_journal-2.ensures.syncs modelled b [] (omega arith) on).0)
+
+pub returns-clause-crash : goal.returns-clause-crash
+returns-clause-crash g c =
+    let exit = disks g.D.SessionDisk.history g.D.SessionDisk.failed c.sync_journal.new.journal.disk c.sync_journal-2.new.journal.disk in
+    each (λ family. WhereOpened g.D.SessionDisk.modelled c.args.text.now (logs c.args.journals.now) exit family (λ b. LeftSince (kind_of family) b (exit family).history (issued_to family c.args.text.now)))
+    (λ modelled b limited on.
+    let few : length (issued c.args.text.now) < 2 ^ 61 = omega (arith, c.requires.short, length_issued c.args.text.now) in
+    (c.in_ok-sync_journal.ensures.syncs modelled b (issued c.args.text.now) few (c.in-Ok.ensures.issues modelled b [] limited few on)).1)
+    (λ modelled b limited on. (c.in_ok-sync_journal-2.ensures.syncs modelled b [] (omega arith) on).1)
