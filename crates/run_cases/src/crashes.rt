@@ -1,28 +1,29 @@
-//! Steps that look at all crashes of a run:
+//! Steps that look at all crashes of a run, of the session's disk or of the other one:
 //!
 //! - `images WORDS`: a run, and every image of the disk that it leaves
-//! - `crashes WORDS`: the run over and over. Each call of the disk fails in turn, once and for good, after several parts of
-//!   its work, and every image of the disk that is left is tried
+//! - `crashes WORDS`: the run over and over. Each call of the disk fails in turn, once and for good, after several
+//!   parts of its work, and every image of the disk that is left is tried
 //!
-//! An image has to read to the state after a prefix of the script's commands, with every told one in it. The disk is
-//! blamed where a call failed, and nowhere else.
+//! An image has to read to the state after a prefix of the commands, with every told one in it. The disk is blamed
+//! where a call of it failed, and nowhere else.
 
-use crate::fault::CaseFault;
-use crate::images::images;
-use crate::prefixes::{is_among, prefixes, state_text};
-use crate::resting::SafeFile;
-use crate::runs::{Outcome, run};
+use crate::recovered::{state_of, states_of};
+use crate::runs::{Found, Outcome, run_over};
 use crate::setting::Setting;
+use case_files::CaseFault;
+use disk_cases::{images, is_among};
 use session_disk::{Call, Failure, Family, Keep, SessionDisk};
 use session_drive::Status;
 use std::alloc::{AllocError, Global};
 
 /// A run that is made over and over, the states after each prefix of its commands, and what was tried of it.
 #[derive(Drop)]
-struct Trials<'a> {
+pub(crate) struct Trials<'a> {
     alloc: Global,
-    files: &'a [SafeFile],
+    found: &'a Found,
     setting: &'a Setting,
+    // the family whose disk fails
+    family: Family,
     words: &'a str,
     prefixes: Vec<String>,
     tried: Tried,
@@ -37,36 +38,19 @@ struct Tried {
 }
 
 /// How many images the disk has after the run.
-pub(crate) fn images_answer<'a>(
-    alloc: Global,
-    files: &'a [SafeFile],
-    setting: &'a Setting,
-    words: &'a str,
-) -> Result<String, CaseFault> {
-    let mut trials = Trials::new(alloc, files, setting, words)?;
-    trials.try_run(setting.failures.as_slice())?;
-    let Tried { images, bad, .. } = trials.tried;
-    match bad {
-        None => Ok(format!(in alloc; "{images}")?),
-        Some(bad) => Ok(bad),
-    }
+pub(crate) fn images_answer(trials: &mut Trials<'_>) -> Result<String, CaseFault> {
+    trials.try_run(trials.found.side(trials.family).failures.as_slice())?;
+    let count = format!(in trials.alloc; "{}", trials.tried.images)?;
+    Ok(trials.tried.bad.take().unwrap_or(count))
 }
 
 /// How many calls of each kind the run makes, and how many runs and images were tried.
-pub(crate) fn crashes_answer<'a>(
-    alloc: Global,
-    files: &'a [SafeFile],
-    setting: &'a Setting,
-    words: &'a str,
-) -> Result<String, CaseFault> {
-    let mut trials = Trials::new(alloc, files, setting, words)?;
+pub(crate) fn crashes_answer(trials: &mut Trials<'_>) -> Result<String, CaseFault> {
     trials.try_run(&[])?;
     let calls = trials.fail_all()?;
-    let Tried { runs, images, bad } = trials.tried;
-    match bad {
-        None => Ok(format!(in alloc; "{}{runs} runs, {images} images", calls.as_str())?),
-        Some(bad) => Ok(bad),
-    }
+    let Tried { runs, images, .. } = &trials.tried;
+    let counts = format!(in trials.alloc; "{}{runs} runs, {images} images", calls.as_str())?;
+    Ok(trials.tried.bad.take().unwrap_or(counts))
 }
 
 const ALL_OF_A_LOOK: &[u64] = &[0];
@@ -77,17 +61,20 @@ const NOTHING_OR_ALL: &[u64] = &[0, 1];
 const SOME_BYTES: &[u64] = &[0, 1, 10, 66, 1000];
 
 impl<'a> Trials<'a> {
-    fn new(
+    pub(crate) fn new(
         alloc: Global,
-        files: &'a [SafeFile],
+        found: &'a Found,
         setting: &'a Setting,
+        family: Family,
         words: &'a str,
     ) -> Result<Trials<'a>, CaseFault> {
-        let prefixes = prefixes(alloc, files, setting.script.as_slice())?;
+        let script = setting.script.as_slice();
+        let prefixes = states_of(alloc, family, found.side(family), script)?;
         Ok(Trials {
             alloc,
-            files,
+            found,
             setting,
+            family,
             words,
             prefixes,
             tried: Tried {
@@ -142,33 +129,59 @@ impl<'a> Trials<'a> {
 
     // Makes the run with these failures, and tries each image that it leaves. The answer is how many calls failed.
     fn try_run(&mut self, failures: &[Failure]) -> Result<u64, CaseFault> {
-        let outcome = run(self.alloc, self.files, self.setting, self.words, failures)?;
-        let failed = outcome.session.failures();
+        let outcome = self.outcome(failures)?;
+        let failed = outcome.disk(self.family).failures();
         if failed == 0 && !failures.is_empty() {
             return Ok(0);
         }
         self.tried.runs = self.tried.runs.saturating_add(1);
-        if is_blamed(&outcome) != (failed > 0) {
+        if self.is_blamed(&outcome) != (failed > 0) {
             self.note(failures, &[], "the answer is another one")?;
         }
         self.try_images(failures, &outcome)?;
         Ok(failed)
     }
 
+    fn outcome(&self, failures: &[Failure]) -> Result<Outcome, CaseFault> {
+        let (session, tabs): (&[Failure], &[Failure]) = match self.family {
+            Family::Session => (failures, &[]),
+            Family::Tabs => (&[], failures),
+        };
+        let session = self.found.session.disk(self.alloc, session)?;
+        let tabs = self.found.tabs.disk(self.alloc, tabs)?;
+        Ok(run_over(self.alloc, self.setting, self.words, session, tabs)?)
+    }
+
+    // Whether a run says that the family's disk failed.
+    fn is_blamed(&self, outcome: &Outcome) -> bool {
+        let line = match self.family {
+            Family::Session => "fault disk session\n",
+            Family::Tabs => "fault disk tabs\n",
+        };
+        outcome.status == Status::Disk(self.family)
+            && outcome.printed.as_slice().ends_with(line.as_bytes())
+    }
+
     fn try_images(&mut self, failures: &[Failure], outcome: &Outcome) -> Result<(), CaseFault> {
+        let noted = outcome.disk(self.family);
         let stamps = self.stamps(outcome)?;
-        for image in images(self.alloc, &outcome.session.disk, stamps.as_slice())? {
+        for image in images(self.alloc, &noted.disk, stamps.as_slice())? {
             self.tried.images = self.tried.images.saturating_add(1);
-            let state = state_after(self.alloc, outcome, image.as_slice())?;
-            if !is_among(
-                self.prefixes.as_slice(),
-                outcome.session.told,
-                state.as_str(),
-            ) {
+            let state = self.state_after(outcome, image.as_slice())?;
+            let prefixes = self.prefixes.as_slice();
+            if !is_among(prefixes, noted.told, u64::MAX, state.as_str()) {
                 self.note(failures, image.as_slice(), state.as_str())?;
             }
         }
         Ok(())
+    }
+
+    // What an image of the disk reads to.
+    fn state_after(&self, outcome: &Outcome, image: &[Keep]) -> Result<String, CaseFault> {
+        match outcome.disk(self.family).disk.crash(image)? {
+            Some(mut left) => state_of(self.alloc, self.family, &mut left),
+            None => Err(CaseFault::Malformed("no crash leaves such an image")),
+        }
     }
 
     // Keeps the first that isn't as it has to be.
@@ -184,32 +197,15 @@ impl<'a> Trials<'a> {
     fn stamps(&self, outcome: &Outcome) -> Result<Vec<u64>, CaseFault> {
         let mut stamps = Vec::new(self.alloc);
         let mut fresh = self.setting.clock;
-        for file in self.files {
+        for file in self.found.side(self.family).files.as_slice() {
             stamps.push(file.stamp)?;
             fresh = fresh.max(file.stamp.saturating_add(1));
         }
-        if let Some(last) = outcome.session.disk.files().last() {
+        if let Some(last) = outcome.disk(self.family).disk.files().last() {
             for stamp in fresh..last.stamp.saturating_add(1) {
                 stamps.push(stamp)?;
             }
         }
         Ok(stamps)
-    }
-}
-
-// Whether a run says that the session's disk failed.
-fn is_blamed(outcome: &Outcome) -> bool {
-    outcome.status == Status::Disk(Family::Session)
-        && outcome
-            .printed
-            .as_slice()
-            .ends_with(b"fault disk session\n")
-}
-
-// What an image of the disk reads to.
-fn state_after(alloc: Global, outcome: &Outcome, image: &[Keep]) -> Result<String, CaseFault> {
-    match outcome.session.disk.crash(image)? {
-        Some(mut left) => state_text(alloc, &mut left),
-        None => Err(CaseFault::Malformed("no crash leaves such an image")),
     }
 }

@@ -1,28 +1,21 @@
 //! Tries whole runs by cases that are text: words, files, scripts and failures, and beside them what is printed and
-//! what is left. Each word names a file of cases; `case_file.rt` says how one is written.
+//! what is left. Each word names a file of cases; the crate `case_files` says how one is written.
 #![tactic(auto)]
 
-mod bytes;
-mod case_file;
 mod crashes;
-mod fault;
-mod images;
 mod noted_disk;
-mod numbers;
-mod plans;
 mod prefixes;
-mod resting;
+mod recovered;
 mod runs;
 mod session;
-mod session_files;
 mod setting;
-mod states;
+mod side;
 mod transcripts;
-mod trial;
 
+use case_files::{Tally, try_file};
+use session::RunCases;
 use std::process::ExitCode;
 use std::{env, fs, io};
-use trial::{Tally, try_file};
 
 fn main(rt: HostRuntime) -> ExitCode {
     match run(rt) {
@@ -36,7 +29,7 @@ fn run(rt: HostRuntime) -> io::Result<bool> {
     let mut tally = Tally::none();
     for name in env::args(&rt)?.skip(1) {
         let text = fs::read_to_string(&rt, name.as_str())?;
-        let report = try_file(rt.alloc(), name.as_str(), text.as_str(), &mut tally)?;
+        let report = try_file::<RunCases>(rt.alloc(), name.as_str(), text.as_str(), &mut tally)?;
         print!(rt; "{}", report.as_str())?;
     }
     println!(rt;

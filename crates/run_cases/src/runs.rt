@@ -1,61 +1,95 @@
 //! One run, and all that is seen of it.
 
-use crate::fault::CaseFault;
 use crate::noted_disk::NotedDisk;
-use crate::resting::{SafeFile, resting};
 use crate::setting::Setting;
-use session_disk::{Failure, FixedClock, MemoryDisk, MemorySink, MemorySource};
+use crate::side::Side;
+use case_files::CaseFault;
+use session_disk::{Family, FixedClock, MemorySink, MemorySource};
 use session_drive::{Status, drive_inline};
 use std::alloc::{AllocError, Global};
 
-/// The answer of a run, what it printed, and the session's disk as it left it.
+/// The files of both families.
+#[derive(Drop)]
+pub(crate) struct Found {
+    pub(crate) session: Side,
+    pub(crate) tabs: Side,
+}
+
+impl Found {
+    pub(crate) fn side(&self, family: Family) -> &Side {
+        match family {
+            Family::Session => &self.session,
+            Family::Tabs => &self.tabs,
+        }
+    }
+
+    pub(crate) fn side_mut(&mut self, family: Family) -> &mut Side {
+        match family {
+            Family::Session => &mut self.session,
+            Family::Tabs => &mut self.tabs,
+        }
+    }
+}
+
+/// The answer of a run, what it printed, and both disks as it left them.
 #[derive(Drop)]
 pub(crate) struct Outcome {
     pub(crate) status: Status,
     pub(crate) printed: Vec<u8>,
     pub(crate) session: NotedDisk,
+    pub(crate) tabs: NotedDisk,
 }
 
-/// Runs with these words over these files, with failures of the disk.
+impl Outcome {
+    pub(crate) fn disk(&self, family: Family) -> &NotedDisk {
+        match family {
+            Family::Session => &self.session,
+            Family::Tabs => &self.tabs,
+        }
+    }
+}
+
+/// Runs with these words over the files, with the failures that are planned.
 pub(crate) fn run(
     alloc: Global,
-    files: &[SafeFile],
+    found: &Found,
     setting: &Setting,
     words: &str,
-    failures: &[Failure],
 ) -> Result<Outcome, CaseFault> {
+    let session = found
+        .session
+        .disk(alloc, found.session.failures.as_slice())?;
+    let tabs = found.tabs.disk(alloc, found.tabs.failures.as_slice())?;
+    Ok(run_over(alloc, setting, words, session, tabs)?)
+}
+
+/// Runs with these words over both disks.
+pub(crate) fn run_over(
+    alloc: Global,
+    setting: &Setting,
+    words: &str,
+    session: NotedDisk,
+    tabs: NotedDisk,
+) -> Result<Outcome, AllocError> {
     let words = read_words(alloc, words)?;
-    let session = failing_disk(alloc, files, failures)?;
+    let script = setting.script.as_slice();
+    let mut source = MemorySource::new(alloc, script, setting.failing_reads.as_slice())?;
     let mut sink = MemorySink::new(alloc, setting.failing_writes.as_slice())?;
-    let (status, session) = drive(alloc, words.as_slice(), setting, &mut sink, session)?;
+    let (status, session, tabs) = drive_inline(
+        alloc,
+        words.as_slice(),
+        &mut source,
+        &mut sink,
+        session,
+        tabs,
+        &mut FixedClock::new(setting.clock.min(1 << 62)),
+    );
     Ok(Outcome {
         status,
         printed: Vec::from_slice(alloc, sink.written())?,
         session,
-    })
-}
-
-fn drive(
-    alloc: Global,
-    words: &[String],
-    setting: &Setting,
-    sink: &mut MemorySink,
-    session: NotedDisk,
-) -> Result<(Status, NotedDisk), AllocError> {
-    let script = setting.script.as_slice();
-    let mut source = MemorySource::new(alloc, script, setting.failing_reads.as_slice())?;
-    let mut clock = FixedClock::new(setting.clock.min(1 << 62));
-    let tabs = NotedDisk::new(MemoryDisk::empty(alloc)?);
-    let (status, session, _tabs) = drive_inline(
-        alloc,
-        words,
-        &mut source,
-        sink,
-        session,
         tabs,
-        &mut clock,
-    );
-    Ok((status, session))
+    })
 }
 
 // The words of a command line, with one space between two of them; `""` is the empty one.
@@ -69,14 +103,4 @@ fn read_words(alloc: Global, text: &str) -> Result<Vec<String>, AllocError> {
         words.push(String::from_str(alloc, word)?)?;
     }
     Ok(words)
-}
-
-fn failing_disk(
-    alloc: Global,
-    files: &[SafeFile],
-    failures: &[Failure],
-) -> Result<NotedDisk, CaseFault> {
-    let mut disk = resting(alloc, files)?;
-    disk.fail(failures)?;
-    Ok(NotedDisk::new(disk))
 }

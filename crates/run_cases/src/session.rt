@@ -1,111 +1,125 @@
-//! What the steps of a case act on: the files of a session between its runs, and the disk as the last run left it.
-//! What a run finds stands before it, as `setting.rt` has it; then the steps are
+//! What the steps of a case act on: the files of both families between its runs, and the disks as the last run left
+//! them. What a run finds stands before it, as `setting.rt` has it; then the steps are
 //!
 //! - `words WORD WORD ..`: a run with these words, `""` for an empty one, over the files that stand
 //! - `images WORDS`, `crashes WORDS`, as `crashes.rt` has them
+//! - `fail FAILURE, ..`: calls of the disk that fail in the next run
 //! - `bytes STAMP`: the bytes of a file
 //! - `state`: what the files read to
 //! - `crash STAMP:LENGTH ..`: what a crash leaves of the disk after the last run
+//!
+//! They are about the session's disk, and behind the word `tabs` about that of the closed entries, where `tabs add
+//! STAMP BYTES` adds a file and `tabs left` says what the last run left.
 
-use crate::bytes::write_bytes;
-use crate::crashes::{crashes_answer, images_answer};
-use crate::fault::CaseFault;
-use crate::noted_disk::NotedDisk;
-use crate::numbers::number;
-use crate::plans::read_keeps;
-use crate::prefixes::state_text;
-use crate::resting::{SafeFile, left, resting};
-use crate::runs::{Outcome, run};
+use crate::crashes::{Trials, crashes_answer, images_answer};
+use crate::recovered::state_of;
+use crate::runs::{Found, run};
 use crate::setting::Setting;
-use crate::transcripts::transcript;
+use crate::side::Side;
+use crate::transcripts::{left_text, transcript};
+use case_files::{CaseFault, Transcript, first_word};
+use disk_cases::{SafeFile, number, put_answer, read_failures, read_file, read_files, resting};
+use session_disk::Family;
 use std::alloc::Global;
 
+/// The cases of whole runs.
+pub(crate) struct RunCases;
+
+impl Transcript for RunCases {
+    fn transcript(alloc: Global, steps: &str, line: &mut u64) -> Result<String, CaseFault> {
+        let files = read_files(alloc, steps, line)?;
+        let count = files.len();
+        let mut session = Session::new(alloc, files);
+        let mut text = String::new(alloc);
+        for step in steps.lines().skip(count) {
+            let said = session.step(step)?;
+            put_answer(&mut text, step, said.as_str())?;
+            *line = line.saturating_add(1);
+        }
+        Ok(text)
+    }
+}
+
 #[derive(Drop)]
-pub(crate) struct Session {
+struct Session {
     alloc: Global,
-    files: Vec<SafeFile>,
     setting: Setting,
-    disk: Option<NotedDisk>,
+    found: Found,
 }
 
 impl Session {
-    /// With these files, and a clock that stands at 100.
-    pub(crate) fn new(alloc: Global, files: Vec<SafeFile>) -> Session {
+    // With these files of the session, none of closed entries, and a clock that stands at 100.
+    fn new(alloc: Global, files: Vec<SafeFile>) -> Session {
         Session {
             alloc,
-            files,
             setting: Setting::new(alloc, 100),
-            disk: None,
+            found: Found {
+                session: Side::new(alloc, files),
+                tabs: Side::new(alloc, Vec::new(alloc)),
+            },
         }
     }
 
-    /// Makes a step, and gives its answer, which is empty where it has none.
-    pub(crate) fn step(&mut self, verb: &str, rest: &str) -> Result<String, CaseFault> {
+    // Makes a step, and gives its answer, which is empty where it has none.
+    fn step(&mut self, line: &str) -> Result<String, CaseFault> {
+        let (verb, rest) = first_word(line);
         if self.setting.takes(self.alloc, verb, rest)? {
             return Ok(String::new(self.alloc));
         }
         match verb {
             "words" => self.run(rest),
-            "images" => self.images(rest),
-            "crashes" => self.crashes(rest),
-            "bytes" => self.bytes(number(rest)?),
-            "state" => self.state(),
-            "crash" => self.crash(rest),
+            "tabs" => self.step_of_tabs(rest),
+            _ => self.step_of(Family::Session, verb, rest),
+        }
+    }
+
+    fn step_of_tabs(&mut self, line: &str) -> Result<String, CaseFault> {
+        let (verb, rest) = first_word(line);
+        match verb {
+            "left" => Ok(left_text(self.alloc, self.found.tabs.last()?)?),
+            "add" => {
+                if let Some(file) = read_file(self.alloc, line)? {
+                    self.found.tabs.files.push(file)?;
+                }
+                Ok(String::new(self.alloc))
+            }
+            _ => self.step_of(Family::Tabs, verb, rest),
+        }
+    }
+
+    fn step_of(&mut self, family: Family, verb: &str, rest: &str) -> Result<String, CaseFault> {
+        let alloc = self.alloc;
+        match verb {
+            "images" => images_answer(&mut self.trials(family, rest)?),
+            "crashes" => crashes_answer(&mut self.trials(family, rest)?),
+            "fail" => {
+                let failures = read_failures(alloc, rest)?;
+                self.found.side_mut(family).failures = failures;
+                Ok(String::new(alloc))
+            }
+            "bytes" => self.found.side(family).bytes(alloc, number(rest)?),
+            "state" => {
+                let mut disk = resting(alloc, self.found.side(family).files.as_slice())?;
+                state_of(alloc, family, &mut disk)
+            }
+            "crash" => match self.found.side_mut(family).crash(alloc, rest)? {
+                true => Ok(String::from_str(alloc, "ok")?),
+                false => Ok(String::from_str(alloc, "can't be")?),
+            },
             _ => Err(CaseFault::Malformed("there is no such step")),
         }
     }
 
+    fn trials<'a>(&'a self, family: Family, words: &'a str) -> Result<Trials<'a>, CaseFault> {
+        Trials::new(self.alloc, &self.found, &self.setting, family, words)
+    }
+
     fn run(&mut self, words: &str) -> Result<String, CaseFault> {
-        let outcome = self.outcome(words)?;
+        let outcome = run(self.alloc, &self.found, &self.setting, words)?;
         let text = transcript(self.alloc, &outcome)?;
-        self.files = left(self.alloc, outcome.session.disk.files())?;
-        self.disk = Some(outcome.session);
+        self.found.session.take(self.alloc, outcome.session)?;
+        self.found.tabs.take(self.alloc, outcome.tabs)?;
         self.setting = Setting::new(self.alloc, self.setting.clock);
         Ok(text)
-    }
-
-    fn outcome(&self, words: &str) -> Result<Outcome, CaseFault> {
-        let files = self.files.as_slice();
-        let failures = self.setting.failures.as_slice();
-        run(self.alloc, files, &self.setting, words, failures)
-    }
-
-    fn images(&self, words: &str) -> Result<String, CaseFault> {
-        let files = self.files.as_slice();
-        images_answer(self.alloc, files, &self.setting, words)
-    }
-
-    fn crashes(&self, words: &str) -> Result<String, CaseFault> {
-        let files = self.files.as_slice();
-        crashes_answer(self.alloc, files, &self.setting, words)
-    }
-
-    fn bytes(&self, stamp: u64) -> Result<String, CaseFault> {
-        for file in self.files.as_slice() {
-            if file.stamp == stamp {
-                return Ok(write_bytes(self.alloc, file.bytes.as_slice())?);
-            }
-        }
-        Err(CaseFault::Malformed("no file has this stamp"))
-    }
-
-    fn state(&self) -> Result<String, CaseFault> {
-        let mut disk = resting(self.alloc, self.files.as_slice())?;
-        state_text(self.alloc, &mut disk)
-    }
-
-    fn crash(&mut self, text: &str) -> Result<String, CaseFault> {
-        let keeps = read_keeps(self.alloc, text)?;
-        let Some(noted) = &self.disk else {
-            return Err(CaseFault::Malformed("there was no run"));
-        };
-        match noted.disk.crash(keeps.as_slice())? {
-            None => Ok(String::from_str(self.alloc, "can't be")?),
-            Some(crashed) => {
-                self.files = left(self.alloc, crashed.files())?;
-                self.disk = Some(NotedDisk::new(crashed));
-                Ok(String::from_str(self.alloc, "ok")?)
-            }
-        }
     }
 }

@@ -4,21 +4,16 @@
 //! - `> LINE`: a line of the script
 //! - `each FIRST LAST LINE`: a line for each number, in the place of %
 //! - `script BYTES`: bytes of the script, which need not end a line
-//! - `fail FAILURE, ..`: calls of the disk that fail, as `plans.rt` has them
 //! - `source failing N N ..`, `sink failing N N ..`: reads of the source and writes of the sink that fail
 
-use crate::bytes::plain_bytes;
-use crate::fault::CaseFault;
-use crate::numbers::{number, numbers};
-use crate::plans::read_failures;
-use session_disk::Failure;
+use case_files::CaseFault;
+use disk_cases::{number, numbers, plain_bytes};
 use std::alloc::Global;
 
 #[derive(Drop)]
 pub(crate) struct Setting {
     pub(crate) clock: u64,
     pub(crate) script: Vec<u8>,
-    pub(crate) failures: Vec<Failure>,
     pub(crate) failing_reads: Vec<u64>,
     pub(crate) failing_writes: Vec<u64>,
 }
@@ -29,7 +24,6 @@ impl Setting {
         Setting {
             clock,
             script: Vec::new(alloc),
-            failures: Vec::new(alloc),
             failing_reads: Vec::new(alloc),
             failing_writes: Vec::new(alloc),
         }
@@ -47,7 +41,6 @@ impl Setting {
             ">" => self.put_line(alloc, rest)?,
             "each" => self.put_each(alloc, rest)?,
             "script" => self.put_bytes(alloc, rest)?,
-            "fail" => self.failures = read_failures(alloc, rest)?,
             "source" => self.failing_reads = failing(alloc, rest)?,
             "sink" => self.failing_writes = failing(alloc, rest)?,
             _ => return Ok(false),

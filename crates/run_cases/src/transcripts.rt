@@ -1,21 +1,28 @@
-//! What is seen of a run as text: the lines that it printed, its exit code, the files that stand, and what the disk was
-//! told.
+//! What is seen of a run as text: the lines that it printed, its exit code, the files that stand, and what the disks
+//! were told.
 
-use crate::fault::CaseFault;
 use crate::noted_disk::NotedDisk;
 use crate::runs::Outcome;
+use case_files::CaseFault;
 use session_disk::{DiskFile, SessionDisk};
 use std::alloc::{AllocError, Global};
 use std::str;
 
-/// The transcript of a run, each line behind a line feed and two spaces.
+/// The transcript of a run with what it left of the session, each line behind a line feed and two spaces.
 pub(crate) fn transcript(alloc: Global, outcome: &Outcome) -> Result<String, CaseFault> {
     let mut text = String::new(alloc);
     put_printed(&mut text, outcome.printed.as_slice())?;
     let exit = format!(in alloc; "\n  exit {}", outcome.status.code())?;
     text.push_str(exit.as_str())?;
-    put_files(&mut text, outcome.session.disk.files())?;
-    text.push_str(notes(alloc, &outcome.session)?.as_str())?;
+    text.push_str(left_text(alloc, &outcome.session)?.as_str())?;
+    Ok(text)
+}
+
+/// What a run left of a family: its files, and what the disk was told.
+pub(crate) fn left_text(alloc: Global, noted: &NotedDisk) -> Result<String, AllocError> {
+    let mut text = String::new(alloc);
+    put_files(&mut text, noted.disk.files())?;
+    text.push_str(notes(alloc, noted)?.as_str())?;
     Ok(text)
 }
 

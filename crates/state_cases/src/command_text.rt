@@ -1,16 +1,17 @@
 //! Commands as a case writes them, by name and fields, from the payloads that are written for them.
-use crate::command_row::{CommandRow, Field, row_of};
+use crate::table::{CommandRow, row_of};
 use crate::text::{put_bytes, put_count, put_flag, put_int, put_pairs, put_text};
 use std::alloc::AllocError;
 
 /// A line with the command of a payload; a raw one is told by its id and its bytes.
 pub(crate) fn put_command(
     out: &mut String,
+    table: &'static str,
     id: u8,
     payload: &[u8],
     is_raw: bool,
 ) -> Result<(), AllocError> {
-    match row_of(id) {
+    match row_of(table, id) {
         Some(row) if !is_raw => put_row(out, &row, payload)?,
         _ => {
             put_count(out, "Raw ", u64::from(id))?;
@@ -30,30 +31,27 @@ fn put_row(out: &mut String, row: &CommandRow, payload: &[u8]) -> Result<(), All
     put_bytes(out, " ", unread.bytes)
 }
 
-fn put_fields(
-    out: &mut String,
-    fields: &[Field],
-    unread: &mut Unread<'_>,
-) -> Result<(), AllocError> {
-    for field in fields {
-        put_field(out, *field, unread)?;
+fn put_fields(out: &mut String, fields: &str, unread: &mut Unread<'_>) -> Result<(), AllocError> {
+    for field in fields.split(' ') {
+        put_field(out, field, unread)?;
     }
     Ok(())
 }
 
-fn put_field(out: &mut String, field: Field, unread: &mut Unread<'_>) -> Result<(), AllocError> {
+fn put_field(out: &mut String, field: &str, unread: &mut Unread<'_>) -> Result<(), AllocError> {
     match field {
-        Field::Int => put_int(out, " ", i64::from(unread.short().cast_signed())),
-        Field::Int64 => put_int(out, " ", unread.long().cast_signed()),
-        Field::Uint32 => put_count(out, " ", u64::from(unread.short())),
-        Field::Uint64 => put_count(out, " ", unread.long()),
-        Field::Flag => put_flag(out, " ", unread.short() != 0),
-        Field::Free => {
+        "int" => put_int(out, " ", i64::from(unread.short().cast_signed())),
+        "int64" => put_int(out, " ", unread.long().cast_signed()),
+        "uint32" => put_count(out, " ", u64::from(unread.short())),
+        "uint64" => put_count(out, " ", unread.long()),
+        "flag" => put_flag(out, " ", unread.short() != 0),
+        "byte" => put_flag(out, " ", unread.take(1) != b"\0".as_slice()),
+        "text" => put_text(out, " ", unread.counted(1)),
+        "units" => put_pairs(out, " ", unread.counted(2)),
+        _ => {
             unread.take(4);
             Ok(())
         }
-        Field::Text => put_text(out, " ", unread.counted(1)),
-        Field::Units => put_pairs(out, " ", unread.counted(2)),
     }
 }
 

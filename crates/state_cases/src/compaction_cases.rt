@@ -1,42 +1,56 @@
-//! Cases of the commands that restate a state, through the trait that journals use.
+//! Cases of states, and of the commands that restate or tidy them, through the trait that journals use.
 ghost use Rattle.std.specs.List.{AllByRecursion};
 
 use crate::case_fault::CaseFault;
 use crate::command_text::put_command;
+use crate::family::Family;
 use crate::replay::replayed;
 use crate::rewriting::written;
-use crate::state_text::state_text;
 use crate::text::put_count;
 use crate::words::Words;
-use compactor::SessionMachine;
-use machine_law::Machine;
 use std::alloc::{AllocError, Global};
-use window_state::SessionState;
+
+/// The state after the commands in the lines.
+pub(crate) fn state<M: Family>(alloc: Global, lines: &[Words<'_>]) -> Result<String, CaseFault> {
+    let state = replayed::<M>(alloc, lines)?;
+    Ok(M::text(alloc, &state)?)
+}
 
 /// The commands that restate the state after those in the lines; where they make another state, that one follows.
-pub(crate) fn compaction(alloc: Global, lines: &[Words<'_>]) -> Result<String, CaseFault> {
-    let state = replayed::<SessionMachine>(alloc, lines)?;
-    Ok(restating(alloc, &state)?)
+pub(crate) fn compaction<M: Family>(
+    alloc: Global,
+    lines: &[Words<'_>],
+) -> Result<String, CaseFault> {
+    let state = replayed::<M>(alloc, lines)?;
+    Ok(restating::<M>(alloc, &state)?)
 }
 
 /// How many lines `compaction` answers.
-pub(crate) fn compaction_count(alloc: Global, lines: &[Words<'_>]) -> Result<String, CaseFault> {
-    let commands = compaction(alloc, lines)?;
+pub(crate) fn compaction_count<M: Family>(
+    alloc: Global,
+    lines: &[Words<'_>],
+) -> Result<String, CaseFault> {
+    let commands = compaction::<M>(alloc, lines)?;
     let mut out = String::new(alloc);
     put_count(&mut out, "", commands.as_str().lines().count() as u64)?;
     Ok(out)
 }
 
 /// The commands that tidy the state after those in the lines.
-pub(crate) fn tidying(alloc: Global, lines: &[Words<'_>]) -> Result<String, CaseFault> {
-    let state = replayed::<SessionMachine>(alloc, lines)?;
-    Ok(tidying_text::<SessionMachine>(alloc, &state)?)
+pub(crate) fn tidying<M: Family>(alloc: Global, lines: &[Words<'_>]) -> Result<String, CaseFault> {
+    let state = replayed::<M>(alloc, lines)?;
+    Ok(tidying_text::<M>(alloc, &state)?)
 }
 
-fn restating(alloc: Global, state: &SessionState) -> Result<String, AllocError> {
-    let mut out = compaction_text::<SessionMachine>(alloc, state)?;
-    let before = state_text(alloc, state)?;
-    let after = restated_text(alloc, state)?;
+fn tidying_text<M: Family>(alloc: Global, state: &M::State) -> Result<String, AllocError> {
+    let commands = M::tidy(alloc, state)?;
+    command_lines::<M>(alloc, commands.as_slice())
+}
+
+fn restating<M: Family>(alloc: Global, state: &M::State) -> Result<String, AllocError> {
+    let mut out = compaction_text::<M>(alloc, state)?;
+    let before = M::text(alloc, state)?;
+    let after = restated_text::<M>(alloc, state)?;
     if before.as_str() != after.as_str() {
         out.push_str("makes another state\n")?;
         out.push_str(after.as_str())?;
@@ -44,18 +58,19 @@ fn restating(alloc: Global, state: &SessionState) -> Result<String, AllocError> 
     Ok(out)
 }
 
-fn restated_text(alloc: Global, state: &SessionState) -> Result<String, AllocError> {
-    let restated = restated::<SessionMachine>(alloc, state)?;
-    state_text(alloc, &restated)
+fn compaction_text<M: Family>(alloc: Global, state: &M::State) -> Result<String, AllocError> {
+    let commands = M::compact(alloc, state)?;
+    command_lines::<M>(alloc, commands.as_slice())
 }
 
 // The state that the commands of a compaction make of the empty one.
-fn restated<M: Machine>(alloc: Global, state: &M::State) -> Result<M::State, AllocError> {
+fn restated_text<M: Family>(alloc: Global, state: &M::State) -> Result<String, AllocError> {
     let commands = M::compact(alloc, state)?;
-    folded::<M>(alloc, commands.as_slice())
+    let restated = folded::<M>(alloc, commands.as_slice())?;
+    M::text(alloc, &restated)
 }
 
-fn folded<M: Machine>(alloc: Global, commands: &[M::Command]) -> Result<M::State, AllocError>
+fn folded<M: Family>(alloc: Global, commands: &[M::Command]) -> Result<M::State, AllocError>
     requires { AllByRecursion M.is_command commands.now }
 {
     let mut state = M::start(alloc)?;
@@ -65,23 +80,13 @@ fn folded<M: Machine>(alloc: Global, commands: &[M::Command]) -> Result<M::State
     Ok(state)
 }
 
-fn compaction_text<M: Machine>(alloc: Global, state: &M::State) -> Result<String, AllocError> {
-    let commands = M::compact(alloc, state)?;
-    command_lines::<M>(alloc, commands.as_slice())
-}
-
-fn tidying_text<M: Machine>(alloc: Global, state: &M::State) -> Result<String, AllocError> {
-    let commands = M::tidy(alloc, state)?;
-    command_lines::<M>(alloc, commands.as_slice())
-}
-
-fn command_lines<M: Machine>(alloc: Global, commands: &[M::Command]) -> Result<String, AllocError>
+fn command_lines<M: Family>(alloc: Global, commands: &[M::Command]) -> Result<String, AllocError>
     requires { AllByRecursion M.is_command commands.now }
 {
     let mut out = String::new(alloc);
     for command in commands {
         let (id, payload) = written::<M>(alloc, command)?;
-        put_command(&mut out, id, payload.as_slice(), false)?;
+        put_command(&mut out, M::table(), id, payload.as_slice(), false)?;
     }
     Ok(out)
 }

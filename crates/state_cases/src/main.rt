@@ -1,16 +1,16 @@
-//! Tries cases that stand as text: what is asked of the crates below, and what is expected beside it. The arguments
-//! name the files; without any, the standard input is read. The cases that differ are printed, and how many were
-//! tried.
+//! Tries cases that stand as text: what is asked of the crates below, and what is expected beside it. Each word
+//! names a file of cases; the crate `case_files` says how one is written.
 #![tactic(auto)]
 
 mod case;
 mod case_fault;
+mod closed_text;
 mod command_cases;
-mod command_row;
 mod command_text;
 mod compaction_cases;
 mod decimal_cases;
 mod extra_cases;
+mod family;
 mod fault_text;
 mod frame_cases;
 mod group_cases;
@@ -24,54 +24,35 @@ mod question;
 mod replay;
 mod rewriting;
 mod state_text;
+mod table;
 mod text;
 mod text_cases;
-mod trial;
 mod view_text;
 mod words;
 
+use case_files::{Tally, try_file};
+use question::StateCases;
 use std::process::ExitCode;
 use std::{env, fs, io};
-use trial::Trial;
 
 fn main(rt: HostRuntime) -> ExitCode {
     match run(rt) {
-        Ok(true) => ExitCode::from(0),
-        Ok(false) => ExitCode::from(1),
-        Err(fault) => {
-            // Nobody is left to be told of a failed print.
-            let _ = eprintln!(rt; "{fault}");
-            ExitCode::from(1)
-        }
+        Ok(true) => ExitCode::SUCCESS,
+        Ok(false) | Err(_) => ExitCode::FAILURE,
     }
 }
 
-// Whether all cases were as expected.
+// Tries each file that is named, and answers whether all cases were as expected.
 fn run(rt: HostRuntime) -> io::Result<bool> {
-    let names = read_names(rt)?;
-    let mut trial = Trial::new();
-    if names.is_empty() {
-        let text = io::read_to_string(rt.alloc(), rt.reader())?;
-        try_file(rt, &mut trial, "standard input", text.as_str())?;
-    }
-    for name in names.as_slice() {
+    let mut tally = Tally::none();
+    for name in env::args(&rt)?.skip(1) {
         let text = fs::read_to_string(&rt, name.as_str())?;
-        try_file(rt, &mut trial, name.as_str(), text.as_str())?;
+        let report = try_file::<StateCases>(rt.alloc(), name.as_str(), text.as_str(), &mut tally)?;
+        print!(rt; "{}", report.as_str())?;
     }
-    println!(rt; "{} cases tried, {} differ", trial.tried, trial.differing)?;
-    Ok(trial.passed())
-}
-
-fn read_names(rt: HostRuntime) -> io::Result<Vec<String>> {
-    let mut names = Vec::new(rt.alloc());
-    for word in env::args(&rt)?.skip(1) {
-        names.push(word)?;
-    }
-    Ok(names)
-}
-
-fn try_file(rt: HostRuntime, trial: &mut Trial, name: &str, text: &str) -> io::Result<()> {
-    let mut report = String::new(rt.alloc());
-    trial.try_file(name, text, &mut report)?;
-    print!(rt; "{}", report.as_str())
+    println!(rt;
+        "{} cases, {} not as expected",
+        tally.tried, tally.differing
+    )?;
+    Ok(tally.differing == 0)
 }

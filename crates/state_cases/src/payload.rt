@@ -2,7 +2,7 @@
 ghost use Rattle.std.specs.Prelude.{◌≤◌, length};
 
 use crate::case_fault::CaseFault;
-use crate::command_row::{CommandRow, Field, row_named};
+use crate::table::{CommandRow, row_named};
 use crate::words::Words;
 use std::alloc::Global;
 
@@ -49,14 +49,18 @@ pub(crate) fn joined(alloc: Global, lines: &[Words<'_>]) -> Result<Vec<u8>, Case
     Ok(bytes)
 }
 
-/// The id and the payload of the command that a line names; of one named `Raw`, as they follow.
-pub(crate) fn named(alloc: Global, line: Words<'_>) -> Result<(u8, Payload), CaseFault> {
+/// The id and the payload of the command that a line names by a table; of one named `Raw`, as they follow.
+pub(crate) fn named(
+    alloc: Global,
+    table: &'static str,
+    line: Words<'_>,
+) -> Result<(u8, Payload), CaseFault> {
     let mut words = line;
     let name = words.word()?;
     if name == "Raw" {
         return numbered(alloc, words);
     }
-    match row_named(name) {
+    match row_named(table, name) {
         Some(row) => Ok((row.id, Payload::new(line, written(alloc, &row, words)?)?)),
         None => Err(line.malformed()),
     }
@@ -78,10 +82,10 @@ fn written(alloc: Global, row: &CommandRow, mut words: Words<'_>) -> Result<Vec<
     Ok(body)
 }
 
-fn fields(alloc: Global, fields: &[Field], words: &mut Words<'_>) -> Result<Vec<u8>, CaseFault> {
+fn fields(alloc: Global, fields: &str, words: &mut Words<'_>) -> Result<Vec<u8>, CaseFault> {
     let mut out = Vec::new(alloc);
-    for field in fields {
-        put_field(words, *field, &mut out)?;
+    for field in fields.split(' ') {
+        put_field(words, field, &mut out)?;
     }
     Ok(out)
 }
@@ -97,21 +101,22 @@ fn pickled(mut words: Words<'_>, mut body: Vec<u8>) -> Result<Vec<u8>, CaseFault
     Ok(pickle)
 }
 
-fn put_field(words: &mut Words<'_>, field: Field, out: &mut Vec<u8>) -> Result<(), CaseFault> {
+fn put_field(words: &mut Words<'_>, field: &str, out: &mut Vec<u8>) -> Result<(), CaseFault> {
     match field {
-        Field::Text => put_text(words, out),
-        Field::Units => put_units(words, out),
+        "text" => put_text(words, out),
+        "units" => put_units(words, out),
         _ => put_number(words, field, out),
     }
 }
 
-fn put_number(words: &mut Words<'_>, field: Field, out: &mut Vec<u8>) -> Result<(), CaseFault> {
+fn put_number(words: &mut Words<'_>, field: &str, out: &mut Vec<u8>) -> Result<(), CaseFault> {
     match field {
-        Field::Int => out.extend_from_slice(&words.number::<i32>()?.to_le_bytes())?,
-        Field::Int64 => out.extend_from_slice(&words.number::<i64>()?.to_le_bytes())?,
-        Field::Uint32 => out.extend_from_slice(&words.number::<u32>()?.to_le_bytes())?,
-        Field::Uint64 => out.extend_from_slice(&words.number::<u64>()?.to_le_bytes())?,
-        Field::Flag => out.extend_from_slice(&[u8::from(words.flag()?), 0, 0, 0])?,
+        "int" => out.extend_from_slice(&words.number::<i32>()?.to_le_bytes())?,
+        "int64" => out.extend_from_slice(&words.number::<i64>()?.to_le_bytes())?,
+        "uint32" => out.extend_from_slice(&words.number::<u32>()?.to_le_bytes())?,
+        "uint64" => out.extend_from_slice(&words.number::<u64>()?.to_le_bytes())?,
+        "flag" => out.extend_from_slice(&[u8::from(words.flag()?), 0, 0, 0])?,
+        "byte" => out.push(u8::from(words.flag()?))?,
         _ => out.extend_from_slice(&[0; 4])?,
     }
     Ok(())

@@ -1,13 +1,13 @@
 //! The state that the commands in the lines of a case make.
 use crate::case_fault::CaseFault;
+use crate::family::Family;
 use crate::payload::{Payload, named};
 use crate::words::Words;
-use machine_law::Machine;
 use std::alloc::{AllocError, Global};
 
 /// The state after the commands. A line `each FIRST LAST COMMAND` stands for the command with each number in that range
 /// in the place of the sign %.
-pub(crate) fn replayed<M: Machine>(
+pub(crate) fn replayed<M: Family>(
     alloc: Global,
     lines: &[Words<'_>],
 ) -> Result<M::State, CaseFault> {
@@ -21,7 +21,7 @@ pub(crate) fn replayed<M: Machine>(
     Ok(state)
 }
 
-fn step_each<M: Machine>(
+fn step_each<M: Family>(
     alloc: Global,
     state: &mut M::State,
     mut words: Words<'_>,
@@ -48,16 +48,16 @@ fn substituted(alloc: Global, text: &str, number: u32) -> Result<String, AllocEr
     Ok(line)
 }
 
-fn step_named<M: Machine>(
+fn step_named<M: Family>(
     alloc: Global,
     state: &mut M::State,
     line: Words<'_>,
 ) -> Result<(), CaseFault> {
-    let (id, payload) = named(alloc, line)?;
+    let (id, payload) = named(alloc, M::table(), line)?;
     Ok(step::<M>(alloc, state, id, &payload)?)
 }
 
-fn step<M: Machine>(
+fn step<M: Family>(
     alloc: Global,
     state: &mut M::State,
     id: u8,

@@ -10,17 +10,6 @@ use std::alloc::{AllocError, Global};
 use tab_pages::Pages;
 use window_state::{GroupId, Row, Rows, SessionState, Tab, TabInfo, Window, WindowInfo};
 
-/// The state after the commands in the lines, copied.
-pub(crate) fn states(alloc: Global, lines: &[Words<'_>]) -> Result<String, CaseFault> {
-    let state = replayed::<SessionMachine>(alloc, lines)?;
-    Ok(copied_text(alloc, &state)?)
-}
-
-fn copied_text(alloc: Global, state: &SessionState) -> Result<String, AllocError> {
-    let copy = state.copy()?;
-    state_text(alloc, &copy)
-}
-
 /// How many windows, tabs and groups the state after the commands has.
 pub(crate) fn counts(alloc: Global, lines: &[Words<'_>]) -> Result<String, CaseFault> {
     let state = replayed::<SessionMachine>(alloc, lines)?;
@@ -83,7 +72,9 @@ pub(crate) fn put_window_info(out: &mut String, info: &WindowInfo) -> Result<(),
     if info.kind != 0 {
         put_int(out, " kind ", i64::from(info.kind))?;
     }
-    put_bounds(out, &info.bounds)?;
+    if let Some(bounds) = &info.bounds {
+        put_bounds(out, bounds)?;
+    }
     put_blob(out, " app ", &info.app)?;
     put_blob(out, " workspace ", &info.workspace)?;
     if info.all_workspaces {
@@ -93,10 +84,7 @@ pub(crate) fn put_window_info(out: &mut String, info: &WindowInfo) -> Result<(),
     put_extra(out, " extra ", &info.extra)
 }
 
-fn put_bounds(out: &mut String, bounds: &Option<Bounds>) -> Result<(), AllocError> {
-    let Some(bounds) = bounds else {
-        return Ok(());
-    };
+pub(crate) fn put_bounds(out: &mut String, bounds: &Bounds) -> Result<(), AllocError> {
     put_int(out, " bounds ", i64::from(bounds.x))?;
     put_int(out, " ", i64::from(bounds.y))?;
     put_int(out, " ", i64::from(bounds.width))?;
@@ -142,7 +130,7 @@ fn put_group_id(out: &mut String, group: &Option<GroupId>) -> Result<(), AllocEr
     }
 }
 
-fn put_pages(out: &mut String, pages: &Pages) -> Result<(), AllocError> {
+pub(crate) fn put_pages(out: &mut String, pages: &Pages) -> Result<(), AllocError> {
     for place in 0..pages.len() {
         let (index, navigation) = pages.at(place);
         put_int(out, "page ", i64::from(index))?;

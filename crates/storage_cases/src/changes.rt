@@ -5,11 +5,8 @@
 //! - `tell N`
 
 use crate::answers::said;
-use crate::bytes::read_bytes;
-use crate::case_file::first_word;
-use crate::fault::CaseFault;
-use crate::numbers::number;
-use crate::resting::stands;
+use case_files::{CaseFault, first_word};
+use disk_cases::{number, read_bytes, stands};
 use session_disk::{DiskError, MemoryDisk, SessionDisk};
 use std::alloc::Global;
 

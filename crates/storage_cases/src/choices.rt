@@ -5,10 +5,9 @@
 //! - `clear STAMP`: removes the files that a fresh one under this stamp replaces
 
 use crate::answers::said_number;
-use crate::fault::CaseFault;
-use crate::numbers::number;
-use crate::states::described;
+use case_files::CaseFault;
 use compactor::SessionMachine;
+use disk_cases::{described, number};
 use file_rotation::{Chosen, Recovered, choose, clear_older, recover};
 use session_disk::MemoryDisk;
 use snss_frames::{Ending, Version};

@@ -4,11 +4,9 @@
 //! told one in it.
 
 use crate::answers::said_number;
-use crate::fault::CaseFault;
-use crate::images::{LONGEST, images};
-use crate::prefixes::{is_among, state_text};
-use crate::resting::SafeFile;
 use crate::runs::{Run, Script, read_script, run_with, stamps};
+use case_files::CaseFault;
+use disk_cases::{LONGEST, SafeFile, images, is_among, state_text};
 use session_disk::{Call, Failure, Keep, MemoryDisk, SessionDisk};
 use std::alloc::{AllocError, Global};
 

@@ -7,11 +7,9 @@
 //! - `close`: gives the disk back
 
 use crate::answers::{said_first, said_number, said_of_journal};
-use crate::fault::CaseFault;
-use crate::numbers::{number, two_ids};
-use crate::prefixes::tab_command;
-use crate::states::described;
+use case_files::CaseFault;
 use compactor::SessionMachine;
+use disk_cases::{described, number, tab_command, two_ids};
 use log_writer::{Journal, JournalFault, Limits, Refused};
 use session_commands::SessionCommand;
 use session_disk::{FixedClock, MemoryDisk};

@@ -9,11 +9,8 @@
 ghost use Rattle.std.specs.Prelude.{◌≤◌, length, IfOk};
 
 use crate::answers::{said_error, said_number};
-use crate::bytes::write_bytes;
-use crate::case_file::first_word;
-use crate::fault::CaseFault;
-use crate::numbers::{number, two_numbers};
-use crate::resting::stands;
+use case_files::{CaseFault, first_word};
+use disk_cases::{number, stands, two_numbers, write_bytes};
 use session_disk::{DiskFile, MemoryDisk, SessionDisk};
 use std::alloc::{AllocError, Global};
 

@@ -1,32 +1,23 @@
 //! Tries what keeps a session on a disk by cases that are text: disks in memory, the choice of a file, journals, names
-//! and streams. Each word names a file of cases; `case_file.rt` says how one is written.
+//! and streams. Each word names a file of cases; the crate `case_files` says how one is written.
 #![tactic(auto)]
 
 mod answers;
-mod bytes;
-mod case_file;
 mod changes;
 mod choices;
 mod cuts;
-mod fault;
-mod images;
 mod journals;
 mod looks;
 mod names;
-mod numbers;
-mod plans;
 mod prefixes;
-mod resting;
 mod runs;
-mod sessions;
-mod states;
 mod streams;
 mod subject;
-mod trial;
 
+use case_files::{Tally, try_file};
 use std::process::ExitCode;
 use std::{env, fs, io};
-use trial::{Tally, try_file};
+use subject::StorageCases;
 
 fn main(rt: HostRuntime) -> ExitCode {
     match run(rt) {
@@ -45,7 +36,12 @@ fn run(rt: HostRuntime) -> io::Result<bool> {
     let mut tally = Tally::none();
     for name in env::args(&rt)?.skip(1) {
         let text = fs::read_to_string(&rt, name.as_str())?;
-        let report = try_file(rt.alloc(), name.as_str(), text.as_str(), &mut tally)?;
+        let report = try_file::<StorageCases>(
+            rt.alloc(),
+            name.as_str(),
+            text.as_str(),
+            &mut tally,
+        )?;
         print!(rt; "{}", report.as_str())?;
     }
     println!(rt;

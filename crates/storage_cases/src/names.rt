@@ -5,10 +5,8 @@
 //! - `fresh CLOCK`, `fresh CLOCK GREATEST`: the stamp of a fresh file
 
 use crate::answers::said_number;
-use crate::bytes::plain_bytes;
-use crate::case_file::first_word;
-use crate::fault::CaseFault;
-use crate::numbers::number;
+use case_files::{CaseFault, first_word};
+use disk_cases::{number, plain_bytes};
 use file_rotation::fresh_stamp;
 use session_disk::{Family, file_name, stamp_of};
 use std::alloc::Global;

@@ -1,10 +1,10 @@
 //! The steps of a case, made over a disk with planned failures.
 
-use crate::fault::CaseFault;
 use crate::journals::read_opening;
 use crate::prefixes::prefixes;
-use crate::resting::{SafeFile, resting};
 use crate::subject::Subject;
+use case_files::CaseFault;
+use disk_cases::{SafeFile, resting};
 use session_disk::{Failure, MemoryDisk};
 use std::alloc::Global;
 

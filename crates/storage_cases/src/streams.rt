@@ -7,9 +7,8 @@
 //! - `written`: all that it took
 
 use crate::answers::said_number;
-use crate::bytes::{plain_bytes, write_bytes};
-use crate::fault::CaseFault;
-use crate::numbers::number;
+use case_files::CaseFault;
+use disk_cases::{number, plain_bytes, write_bytes};
 use session_disk::{Failed, MemorySink, MemorySource, Sink, Source};
 use std::alloc::Global;
 

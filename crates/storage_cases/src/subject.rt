@@ -1,16 +1,34 @@
 //! What the steps of a case act on: a disk, or a journal that has taken it, and streams.
 
-use crate::case_file::first_word;
 use crate::changes::change;
-use crate::fault::CaseFault;
 use crate::journals::{self, SessionJournal, limits, opened, read_opening};
 use crate::looks::look;
-use crate::plans::{crash, plan};
-use crate::resting::{SafeFile, resting};
 use crate::streams::Streams;
-use crate::{answers, choices, names};
+use crate::{answers, choices, cuts, names};
+use case_files::{CaseFault, Transcript, first_word};
+use disk_cases::{SafeFile, put_answer, read_failures, read_files, read_keeps, resting};
 use session_disk::MemoryDisk;
 use std::alloc::Global;
+
+/// The cases of disks, of the files on them and of journals.
+pub(crate) struct StorageCases;
+
+impl Transcript for StorageCases {
+    fn transcript(alloc: Global, steps: &str, line: &mut u64) -> Result<String, CaseFault> {
+        let files = read_files(alloc, steps, line)?;
+        let mut subject = Subject::new(alloc, files.as_slice())?;
+        let mut text = String::new(alloc);
+        for step in steps.lines().skip(files.len()) {
+            let said = match step {
+                "cuts" => cuts::answer(alloc, files.as_slice(), steps)?,
+                _ => subject.step(step)?,
+            };
+            put_answer(&mut text, step, said.as_str())?;
+            *line = line.saturating_add(1);
+        }
+        Ok(text)
+    }
+}
 
 #[derive(Drop)]
 pub(crate) struct Subject {
@@ -24,7 +42,7 @@ pub(crate) struct Subject {
 
 impl Subject {
     /// A disk at rest with these files.
-    pub(crate) fn new(alloc: Global, files: &[SafeFile]) -> Result<Subject, CaseFault> {
+    fn new(alloc: Global, files: &[SafeFile]) -> Result<Subject, CaseFault> {
         let disk = resting(alloc, files)?;
         Ok(Subject::over(alloc, disk))
     }
@@ -103,7 +121,8 @@ impl Subject {
             return Err(CaseFault::Malformed("there is no disk"));
         };
         if verb == "crash" {
-            let Some(left) = crash(self.alloc, disk, rest)? else {
+            let keeps = read_keeps(self.alloc, rest)?;
+            let Some(left) = disk.crash(keeps.as_slice())? else {
                 return Ok(String::from_str(self.alloc, "can't be")?);
             };
             self.disk = Some(left);
@@ -132,7 +151,8 @@ fn step_of(
     rest: &str,
 ) -> Result<String, CaseFault> {
     if verb == "fail" {
-        plan(alloc, disk, rest)?;
+        let failures = read_failures(alloc, rest)?;
+        disk.fail(failures.as_slice())?;
         return Ok(String::new(alloc));
     }
     if let Some(said) = look(alloc, disk, verb, rest)? {

@@ -1,7 +1,0 @@
-use Rattle.std.proofs.Common.{ℕ, Option, sym, ap, ◌∙◌}
-use Rattle.std.specs.Option.{is_some}
-use Rattle.session_disk.specs.Moments.{Standing}
-use Rattle.storage_cases.proofs.resting.stands.Goals as goal
-
-pub returns : goal.returns
-returns c = c.is_among.ensures ∙ ap (λ (standing : ℕ → Option Standing). is_some (standing c.args.stamp)) (sym c.files.ensures.standing)
