@@ -41,7 +41,8 @@ impl Model for SessionState {
 
     ghost view = { λ s. record { tabs = s.tabs; windows = s.windows; groups = s.groups; active = s.active } };
 
-    ghost invariant = { λ s. IsHeldInRange s.members (record { tabs = s.tabs; windows = s.windows; groups = s.groups; active = s.active }) };
+    ghost invariant = { λ s. IsHeldInRange s.members
+        (record { tabs = s.tabs; windows = s.windows; groups = s.groups; active = s.active }) };
 }
 
 impl SessionState {
@@ -239,7 +240,8 @@ fn place(
     window: i32,
     tab: i32,
 ) -> Result<(), AllocError>
-    ensures windows { OnOk result (windows.new ≡ step_row int_cmp window_key window (new_window window) (λ w. w) windows.old) }
+    ensures windows { OnOk result
+        (windows.new ≡ step_row int_cmp window_key window (new_window window) (λ w. w) windows.old) }
     ensures tabs { OnOk result
         (tabs.new ≡ step_row int_cmp tab_key tab (new_tab tab) (λ t. record t { window = Some window }) tabs.old) }
     ensures err { OnErr result ((windows.new ≡ windows.old) × (tabs.new ≡ tabs.old)) }
