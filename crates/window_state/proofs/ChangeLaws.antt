@@ -5,11 +5,16 @@ use Rattle.window_state.specs.declared.tab.Tab.{Tab}
 use Rattle.window_state.specs.declared.window.Window.{Window}
 use Rattle.window_state.specs.declared.change.TabChange.{TabChange}
 use Rattle.window_state.specs.declared.change.TabChange.TheVariants as tab
+use Rattle.window_state.specs.declared.change.TabEdit.{TabEdit}
+use Rattle.window_state.specs.declared.change.TabEdit.TheVariants as tab_edit
 use Rattle.window_state.specs.declared.change.WindowChange.{WindowChange}
 use Rattle.window_state.specs.declared.change.WindowChange.TheVariants as window
+use Rattle.window_state.specs.declared.change.WindowEdit.{WindowEdit}
+use Rattle.window_state.specs.declared.change.WindowEdit.TheVariants as window_edit
 use Rattle.tab_pages.specs.PageLists.{IsRising, prune, prune_back, prune_front, put_page}
 use Rattle.window_state.specs.Keys.{tab_key, window_key}
 use Rattle.window_state.specs.Changes.{new_tab, new_window, changed_tab, changed_window, current_front, current_pruned}
+use Rattle.window_state.specs.Changes.{edit_change, window_edit_change}
 use Rattle.window_state.specs.Fits.{IsKeptTab, IsKeptWindow, TabChangeFits, WindowChangeFits}
 use Rattle.window_state.proofs.ExtraLaws.{fits-set, distinct-set, distinct-none}
 use Rattle.tab_pages.proofs.PageLaws.{rising-filter, rising-prune, rising-prune_front, rising-put_page}
@@ -77,3 +82,17 @@ kept-new_tab id = record { extension = tt; storage = tt; guid = tt; agent = tt; 
 
 pub kept-new_window : (id : ℤ) → IsKeptWindow (new_window id)
 kept-new_window id = record { app = tt; workspace = tt; title = tt; extra = tt; distinct = distinct-none }
+
+-- no edit has a text
+pub tab_edit-fits : (edit : TabEdit) → TabChangeFits (edit_change edit)
+tab_edit-fits (tab_edit.Index index) = tt
+tab_edit-fits (tab_edit.Current index) = tt
+tab_edit-fits (tab_edit.PruneBack index) = tt
+tab_edit-fits (tab_edit.PruneFront count) = tt
+tab_edit-fits (tab_edit.Pinned pinned) = tt
+tab_edit-fits (tab_edit.Group group) = tt
+tab_edit-fits (tab_edit.LastActive time) = tt
+
+pub window_edit-fits : (edit : WindowEdit) → WindowChangeFits (window_edit_change edit)
+window_edit-fits (window_edit.Selected index) = tt
+window_edit-fits (window_edit.Bounded bounds) = tt

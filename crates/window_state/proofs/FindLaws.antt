@@ -10,7 +10,7 @@ use Rattle.std.specs.Cmp.{IsTotalOrder}
 use Rattle.std.proofs.lemmas.Map.Keys.{sorted_head, sorted_tail}
 use Rattle.window_state.specs.RowLists.{find_row, step_row, without_row}
 
-is_equal : (o : Ordering) → is_eq o ≡ true → o ≡ Equal
+pub is_equal : (o : Ordering) → is_eq o ≡ true → o ≡ Equal
 is_equal Less e = absurd cc
 is_equal Equal e = refl
 is_equal Greater e = absurd cc
@@ -29,7 +29,8 @@ module _ {K R : Type 0} (cmp : K → K → Ordering) (key : R → K) (total : Is
       after (s ∷ ss) all = (total.trans k (key r) (key s) less all.0, after ss all.1)
 
   -- the first row's key finds no other row
-  find-first : (r : R) (rs : List R) → IsStrictlySortedBy cmp (map key (r ∷ rs)) → find_row cmp key (key r) rs ≡ None
+  pub find-first : (r : R) (rs : List R) → IsStrictlySortedBy cmp (map key (r ∷ rs))
+      → find_row cmp key (key r) rs ≡ None
   find-first r rs sorted = find-before (key r) rs (sorted_head cmp (key r) (map key rs) sorted)
 
   -- the row of a step

@@ -1,9 +1,13 @@
 -- Pairs of windows and tabs, and the tabs that they tell of, after each change of both.
-use Rattle.std.proofs.Common.{◌≡◌, ◌≢◌, ℤ, Bool, true, false, not, ◌&&◌, if◌then◌else◌, List, map, filter, length, nat_le, Option, Some, None, IfSome, refl, sym, ap, subst, ◌∙◌, true≢false}
+use Rattle.std.proofs.Common.{◌≡◌, ◌≢◌, ℤ, Bool, true, false, not, ◌&&◌, ◌||◌, if◌then◌else◌, List, [], ◌∷◌, map}
+use Rattle.std.proofs.Common.{filter, length, nat_le, Option, Some, None, IfSome, refl, sym, ap, subst, ◌∙◌, true≢false}
+use Rattle.std.proofs.lemmas.Cmp.{int_eq_equiv}
+use Rattle.std.proofs.lemmas.Map.Keys.{sorted_tail}
 use Rattle.std.proofs.lemmas.Map.Lookups.{exact_signed}
 use Rattle.std.specs.Cmp.{int_cmp_total}
 use Rattle.std.specs.Ordering.{int_cmp, int_eq}
 use Rattle.std.specs.Option.{unwrap_or}
+use Rattle.std.specs.List.{list_any}
 use Rattle.std.specs.List.Sorted.{IsStrictlySortedBy}
 use Rattle.window_state.specs.declared.tab.Tab.{Tab}
 use Rattle.window_state.specs.RowLists.{find_row, step_row, without_row}
@@ -12,8 +16,10 @@ use Rattle.window_state.specs.Changes.{new_tab, new_window}
 use Rattle.window_state.specs.Fits.{IsKeptTab}
 use Rattle.window_state.specs.Limits.{limit}
 use Rattle.window_state.specs.States.{State, is_in, tab_closed, with_both, with_tab}
-use Rattle.window_state.specs.Members.{has_pair, own_window, window_of, AreMembers, IsHeld, LeavesWindow, SetsPair}
-use Rattle.window_state.proofs.FindLaws.{find-step, find-beside, find-gone, find-kept, filter-all, filter-without}
+use Rattle.window_state.specs.Members.{has_pair, own_window, stands_in, window_of, AreMembers, IsHeld, LeavesWindow}
+use Rattle.window_state.specs.Members.{SetsPair}
+use Rattle.window_state.proofs.FindLaws.{find-first, find-step, find-beside, find-gone, find-kept, filter-all}
+use Rattle.window_state.proofs.FindLaws.{filter-without}
 use Rattle.window_state.proofs.PairLaws.{same_number}
 use Rattle.window_state.proofs.StateLaws.{itself, kept-both, kept-tab, kept-tab_closed}
 
@@ -56,6 +62,37 @@ module _ (id : ℤ) (tabs : List Tab) (sorted : IsStrictlySortedBy int_cmp (map 
       by : (b : Bool) → int_eq id t ≡ b → window_of t (without_row int_cmp tab_key id tabs) ≡ (if int_eq id t then None else window_of t tabs)
       by true is = rw (is, ← same_number id t is) (ap own_window (find-gone int_cmp tab_key int_cmp_total exact_signed id tabs sorted))
       by false is = rw is (ap own_window (find-kept int_cmp tab_key int_cmp_total exact_signed t id tabs (other t id is)))
+
+-- the tab with an id, among tabs in order
+listed : (w t : ℤ) (tabs : List Tab) → IsStrictlySortedBy int_cmp (map tab_key tabs)
+    → list_any (stands_in w t) tabs ≡ is_in w (window_of t tabs)
+listed w t [] sorted = refl
+listed w t (r ∷ rs) sorted =
+    by (listed w t rs (sorted_tail int_cmp (tab_key r) (map tab_key rs) sorted)) (int_eq t (tab_key r)) refl
+  where
+    by : list_any (stands_in w t) rs ≡ is_in w (window_of t rs) → (b : Bool) → int_eq t (tab_key r) ≡ b
+        → list_any (stands_in w t) (r ∷ rs) ≡ is_in w (window_of t (r ∷ rs))
+    by rest true is =
+        let none = find-first int_cmp tab_key int_cmp_total exact_signed r rs sorted in
+        let gone : window_of t rs ≡ None =
+        ap (λ k. window_of k rs) (same_number t (tab_key r) is) ∙ ap own_window none in
+        let same : int_eq (tab_key r) t ≡ true = int_eq_equiv.symm (tab_key r) t ∙ is in
+        rw (is, same, rest, gone)
+        (elim (is_in w r.window) as (λ b. (b && true) || false ≡ b) [ true ↦ refl | false ↦ refl ])
+    by rest false is =
+        let apart : int_eq (tab_key r) t ≡ false = int_eq_equiv.symm (tab_key r) t ∙ is in
+        rw (is, apart, rest)
+        (elim (is_in w r.window) as (λ b. (b && false) || is_in w (window_of t rs) ≡ is_in w (window_of t rs))
+        [ true ↦ refl | false ↦ refl ])
+
+-- the pairs of all tabs, once none is left
+pub listed-members : (pairs : List (ℤ × ℤ)) (left tabs : List Tab) → left ≡ []
+    → IsStrictlySortedBy int_cmp (map tab_key tabs)
+    → ((w t : ℤ) → has_pair w t pairs || list_any (stands_in w t) left ≡ list_any (stands_in w t) tabs)
+    → AreMembers pairs tabs
+listed-members pairs left tabs none sorted are w t =
+    let all : has_pair w t pairs || false ≡ list_any (stands_in w t) tabs = rw none at (are w t) in
+    elim (has_pair w t pairs) as (λ b. b ≡ b || false) [ true ↦ refl | false ↦ refl ] ∙ all ∙ listed w t tabs sorted
 
 -- a tab that is changed in its window
 pub changed-members : (pairs : List (ℤ × ℤ)) (old new : List Tab) → ((t : ℤ) → window_of t new ≡ window_of t old) → AreMembers pairs old → AreMembers pairs new

@@ -10,8 +10,12 @@ use Rattle.window_state.specs.declared.change.TabChange.{TabChange}
 use Rattle.window_state.specs.declared.change.TabChange.TheVariants as tab
 use Rattle.window_state.specs.declared.change.TabStep.{TabStep}
 use Rattle.window_state.specs.declared.change.TabStep.TheVariants as step
+use Rattle.window_state.specs.declared.change.TabEdit.{TabEdit}
+use Rattle.window_state.specs.declared.change.TabEdit.TheVariants as tab_edit
 use Rattle.window_state.specs.declared.change.WindowChange.{WindowChange}
 use Rattle.window_state.specs.declared.change.WindowChange.TheVariants as window
+use Rattle.window_state.specs.declared.change.WindowEdit.{WindowEdit}
+use Rattle.window_state.specs.declared.change.WindowEdit.TheVariants as window_edit
 
 -- a tab that was just made: in no window, without pages
 abbrev pub new_tab : ℤ → Tab
@@ -90,6 +94,19 @@ abbrev pub stepped_tab : TabStep → Tab → Tab
 stepped_tab (step.Placed window) t = record t { window = Some window }
 stepped_tab (step.Changed change) t = changed_tab change t
 
+-- an edit as the change that it is
+abbrev pub edit_change : TabEdit → TabChange
+edit_change (tab_edit.Index index) = tab.Index index
+edit_change (tab_edit.Current index) = tab.Current index
+edit_change (tab_edit.PruneBack index) = tab.PruneBack index
+edit_change (tab_edit.PruneFront count) = tab.PruneFront count
+edit_change (tab_edit.Pinned pinned) = tab.Pinned pinned
+edit_change (tab_edit.Group group) = tab.Group group
+edit_change (tab_edit.LastActive time) = tab.LastActive time
+
+abbrev pub edited_tab : TabEdit → Tab → Tab
+edited_tab edit = changed_tab (edit_change edit)
+
 abbrev pub changed_window : WindowChange → Window → Window
 changed_window (window.Selected index) w = record w { selected = index }
 changed_window (window.Kind kind) w = record w { info = record w.info { kind = kind } }
@@ -99,3 +116,10 @@ changed_window (window.Workspace text) w = record w { info = record w.info { wor
 changed_window (window.AllWorkspaces all) w = record w { info = record w.info { all_workspaces = all } }
 changed_window (window.Title text) w = record w { info = record w.info { title = Some text } }
 changed_window (window.ExtraValue key value) w = record w { info = record w.info { extra = set_pair key value w.info.extra } }
+
+abbrev pub window_edit_change : WindowEdit → WindowChange
+window_edit_change (window_edit.Selected index) = window.Selected index
+window_edit_change (window_edit.Bounded bounds) = window.Bounded bounds
+
+abbrev pub edited_window : WindowEdit → Window → Window
+edited_window edit = changed_window (window_edit_change edit)

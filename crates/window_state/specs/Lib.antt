@@ -8,6 +8,7 @@ pub mod Ranges
 pub mod States
 pub mod Members
 pub mod Views
+pub mod TabLists
 pub mod Shown
 pub use Rattle.tab_pages.specs.PageLists
 pub use Rattle.tab_pages.specs.Positions

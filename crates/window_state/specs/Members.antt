@@ -36,6 +36,10 @@ own_window (Some tab) = tab.window
 abbrev pub window_of : ℤ → List Tab → Option ℤ
 window_of id tabs = own_window (find_row int_cmp tab_key id tabs)
 
+-- a tab has this id and stands in this window
+abbrev pub stands_in : ℤ → ℤ → Tab → Bool
+stands_in window id tab = is_in window tab.window && int_eq tab.info.id id
+
 -- a pair is there exactly where its tab stands and has its window
 abbrev pub AreMembers : List (ℤ × ℤ) → List Tab → Type 0
 AreMembers pairs tabs = (w t : ℤ) → has_pair w t pairs ≡ is_in w (window_of t tabs)

@@ -1,6 +1,6 @@
 -- Rows in a list by rising key. Insertion, change and removal go by cases on the comparison with each key, so they
 -- are defined on every list.
-use Rattle.std.specs.Prelude.{◌≡◌, List, [], ◌∷◌, Option, Some, None, if◌then◌else◌}
+use Rattle.std.specs.Prelude.{◌≡◌, List, [], ◌∷◌, filter, Option, Some, None, if◌then◌else◌}
 use Rattle.std.specs.List.{AllByRecursion}
 use Rattle.std.specs.Ordering.{is_eq, match_ordering}
 use Rattle.std.specs.declared.cmp.Ordering.{Ordering}
@@ -20,6 +20,14 @@ module _ {K R : Type 0} (cmp : K → K → Ordering) (key : R → K) where
   abbrev pub step_row : K → R → (R → R) → List R → List R
   step_row k fresh change [] = change fresh ∷ []
   step_row k fresh change (r ∷ rs) = match_ordering (cmp k (key r)) (change fresh ∷ r ∷ rs) (change r ∷ rs) (r ∷ step_row k fresh change rs)
+
+  -- the rows under a key, of rows in any order
+  abbrev pub only : K → List R → List R
+  only k rows = filter (λ r. is_eq (cmp k (key r))) rows
+
+  -- a row that is changed where it has the key
+  abbrev pub on_key : K → (R → R) → R → R
+  on_key k change r = if is_eq (cmp k (key r)) then change r else r
 
   -- the row under a key goes
   abbrev pub without_row : K → List R → List R

@@ -37,6 +37,22 @@ pub enum TabStep {
     Changed(TabChange),
 }
 
+/// A change of a tab that takes no memory.
+#[derive(Drop)]
+pub enum TabEdit {
+    /// Its place among the tabs of its window.
+    Index(i32),
+    /// The index of the page that it shows.
+    Current(i32),
+    /// Pages from this index on go.
+    PruneBack(i32),
+    /// So many indices at the front go, and the others fall by their number.
+    PruneFront(i32),
+    Pinned(bool),
+    Group(Option<GroupId>),
+    LastActive(i64),
+}
+
 /// A change of a window.
 #[derive(Drop)]
 pub enum WindowChange {
@@ -50,4 +66,12 @@ pub enum WindowChange {
     Title(Blob),
     /// The value under a key.
     ExtraValue(Blob, Blob),
+}
+
+/// A change of a window that takes no memory.
+#[derive(Drop)]
+pub enum WindowEdit {
+    /// The index of the tab that it shows.
+    Selected(i32),
+    Bounded(Bounds),
 }

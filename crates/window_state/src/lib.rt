@@ -27,10 +27,11 @@ mod viewing;
 mod window;
 mod window_rows;
 
-pub use change::{TabChange, TabStep, WindowChange};
+pub use change::{TabChange, TabEdit, TabStep, WindowChange, WindowEdit};
 pub use extra::Extra;
 pub use group_id::GroupId;
-pub use rows::{Changing, Row, Rows};
+pub use rows::{Changing, Editing, Row, Rows};
+pub use shown::Shown;
 pub use state::SessionState;
 pub use tab::{Tab, TabInfo};
 pub use view_parts::{View, ViewTab, ViewWindow};

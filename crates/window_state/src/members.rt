@@ -1,13 +1,15 @@
 //! Which tabs stand in which window, as an ordered set of pairs.
-ghost use Rattle.std.specs.Prelude.{◌≡◌, ℤ, ◌+◌, length, [], true, false, IfOk, OnOk, OnErr, IfSome, IfNone};
-ghost use Rattle.window_state.specs.Members.{has_pair, LeavesWindow, SetsPair};
+ghost use Rattle.std.specs.Prelude.{◌≡◌, ℤ, ◌+◌, ◌||◌, length, [], true, false, IfOk, OnOk, OnErr, IfSome, IfNone};
+ghost use Rattle.window_state.specs.Members.{has_pair, stands_in, AreMembers, LeavesWindow, SetsPair};
 
+use crate::rows::Rows;
+use crate::tab::Tab;
 use std::alloc::{AllocError, Global};
 use std::collections::BTreeSet;
 use std::marker::Model;
 
 /// Pairs of a window and a tab in it. A call for one pair takes time in the logarithm of their number, and only
-/// `insert` and `copy` take memory.
+/// `of`, `insert` and `copy` take memory.
 #[derive(Drop)]
 pub struct Members {
     pairs: BTreeSet<(i32, i32)>,
@@ -30,6 +32,28 @@ impl Members {
     {
         Members {
             pairs: BTreeSet::new(alloc),
+        }
+    }
+
+    /// The pairs of these tabs and their windows. It makes O(t log t) comparisons for t tabs.
+    pub fn of(alloc: Global, tabs: &Rows<Tab>) -> Result<Members, AllocError>
+        ensures { IfOk result (λ m. AreMembers m tabs.now) }
+    {
+        let mut members = Members::new(alloc);
+        for tab in tabs.iter() {
+            members.add(tab)?;
+        }
+        Ok(members)
+    }
+
+    // The tab's pair with its window, where it has one, is there from now on.
+    fn add(&mut self, tab: &Tab) -> Result<(), AllocError>
+        ensures { OnOk result
+            ((w t : ℤ) → has_pair w t self.new ≡ has_pair w t self.old || stands_in w t tab.now) }
+    {
+        match tab.window {
+            Some(window) => self.insert(window, tab.info.id),
+            None => Ok(()),
         }
     }
 

@@ -5,7 +5,7 @@ ghost use Rattle.std.specs.List.Sorted.{IsStrictlySortedBy};
 ghost use Rattle.std.specs.Map.Iter.{ShowsInOrder, deref};
 ghost use Rattle.std.specs.declared.cmp.Ordering.TheVariants.{Equal};
 ghost use Rattle.window_state.specs.Limits.{limit};
-ghost use Rattle.window_state.specs.RowLists.{find_row, put_row, step_row, without_row};
+ghost use Rattle.window_state.specs.RowLists.{find_row, on_key, put_row, step_row, without_row};
 
 use std::alloc::{AllocError, Global};
 use std::collections::BTreeMap;
@@ -47,6 +47,17 @@ pub trait Changing: Row {
         ensures same_key { Self.key self.new ≡ Self.key self.old };
 
     ghost fresh_key: { (id : Self.Key) → Self.key (fresh id) ≡ id };
+}
+
+/// A row with changes that take no memory.
+pub trait Editing: Row {
+    type Edit: Drop;
+
+    ghost edited: { Self.Edit → Self → Self };
+
+    fn edit(&mut self, edit: Self::Edit)
+        ensures edited { self.new ≡ edited edit self.old }
+        ensures same_key { Self.key self.new ≡ Self.key self.old };
 }
 
 /// Rows by rising key. A call for one row takes time in the logarithm of their number.
@@ -182,5 +193,17 @@ impl<R: Changing> Rows<R> {
                 Ok(())
             }
         }
+    }
+}
+
+impl<R: Editing> Rows<R> {
+    /// The row with the key is changed, where it is there.
+    pub fn edit(&mut self, id: R::Key, edit: R::Edit)
+        ensures { self.new ≡ map (on_key R.Key.cmp R.key id (R.edited edit)) self.old }
+    {
+        let Some(row) = self.rows.get_mut(&id) else {
+            return;
+        };
+        row.edit(edit);
     }
 }

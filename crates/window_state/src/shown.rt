@@ -49,16 +49,17 @@ impl Place {
     }
 }
 
-/// The tabs that have a window and a page, by their places, and the tokens of their groups.
+/// The tabs of a state that have a window and a page, by their places, and the tokens of their groups. It holds a
+/// reference to each of these tabs.
 #[derive(Drop)]
-pub(crate) struct Shown<'a> {
+pub struct Shown<'a> {
     tabs: BTreeMap<Place, &'a Tab>,
     groups: BTreeSet<GroupId>,
 }
 
 impl<'a> Shown<'a> {
-    /// The shown ones of these tabs. It makes O(t log t) comparisons for t tabs, and holds a reference to each.
-    pub(crate) fn of(alloc: Global, tabs: &'a Rows<Tab>) -> Result<Shown<'a>, AllocError>
+    /// The shown ones of these tabs. It makes O(t log t) comparisons for t tabs.
+    pub fn of(alloc: Global, tabs: &'a Rows<Tab>) -> Result<Shown<'a>, AllocError>
         ensures tabs { IfOk result (λ s. (window : ℤ) → tabs_in window s ≡ shown_tabs window tabs.now) }
         ensures count { IfOk result (λ s. length s.tabs.entries ≤ length tabs.now) }
         ensures fits { IfOk result (λ s. AllByRecursion FitsPlace (keys_of s.tabs.entries)) }
@@ -102,8 +103,9 @@ impl<'a> Shown<'a> {
         put_group(&mut self.groups, tab.info.group)
     }
 
-    /// The tabs of a window, by index and by id.
-    pub(crate) fn in_window(&self, alloc: Global, window: i32) -> Result<Vec<&'a Tab>, AllocError>
+    /// The shown tabs of a window by index, then by id; none where no tab is shown in it, whether it stands or not. It
+    /// makes O(log t) comparisons for t shown tabs, and takes time and memory in what it finds.
+    pub fn in_window(&self, alloc: Global, window: i32) -> Result<Vec<&'a Tab>, AllocError>
         requires { AllByRecursion FitsPlace (keys_of self.now.tabs.entries) }
         ensures { IfOk result (λ v. map deref v.items ≡ tabs_in window self.now) }
     {

@@ -1,13 +1,13 @@
 //! The state of a session.
-ghost use Rattle.std.specs.Prelude.{◌≡◌, ℤ, Some, not, filter, IfOk, OnOk, OnErr};
+ghost use Rattle.std.specs.Prelude.{◌≡◌, ℤ, true, false, Some, None, is_some, not, filter, IfOk, OnOk, OnErr};
 ghost use Rattle.std.specs.Ordering.{int_cmp};
-ghost use Rattle.window_state.specs.RowLists.{step_row};
+ghost use Rattle.window_state.specs.RowLists.{find_row, step_row};
 ghost use Rattle.window_state.specs.Keys.{tab_key, window_key};
 ghost use Rattle.window_state.specs.Changes.{new_tab, new_window};
-ghost use Rattle.window_state.specs.States.{is_in};
+ghost use Rattle.window_state.specs.States.{is_in, stands};
 ghost use Rattle.window_state.specs.Members.{window_of, AreMembers};
 
-use crate::change::{TabChange, TabStep, WindowChange};
+use crate::change::{TabChange, TabEdit, TabStep, WindowChange, WindowEdit};
 use crate::members::Members;
 use crate::rows::Rows;
 use crate::tab::Tab;
@@ -47,7 +47,7 @@ impl Model for SessionState {
 
 impl SessionState {
     ghost use Rattle.window_state.specs.States.{IsState, start, on_tab, on_window, placed, with_group, with_active, tab_closed, window_closed};
-    ghost use Rattle.window_state.specs.Changes.{changed_tab, changed_window};
+    ghost use Rattle.window_state.specs.Changes.{changed_tab, changed_window, edited_tab, edited_window};
     ghost use Rattle.window_state.specs.Fits.{TabChangeFits, WindowChangeFits};
 
     /// No tabs, windows and groups.
@@ -60,6 +60,30 @@ impl SessionState {
             groups: Rows::new(alloc),
             active: None,
             members: Members::new(alloc),
+            alloc,
+        })
+    }
+
+    /// The state of these rows. It takes memory for the pairs of a window and a tab in it alone, and makes O(t log t)
+    /// comparisons for t tabs.
+    pub fn from_rows(
+        alloc: Global,
+        tabs: Rows<Tab>,
+        windows: Rows<Window>,
+        groups: Rows<GroupInfo>,
+        active: Option<i32>,
+    ) -> Result<SessionState, AllocError>
+        requires { IsState (record { tabs = tabs; windows = windows; groups = groups; active = active }) }
+        ensures { IfOk result
+            (λ s. s ≡ record { tabs = tabs; windows = windows; groups = groups; active = active }) }
+    {
+        let members = Members::of(alloc, &tabs)?;
+        Ok(SessionState {
+            tabs,
+            windows,
+            groups,
+            active,
+            members,
             alloc,
         })
     }
@@ -124,6 +148,29 @@ impl SessionState {
         }
         change.known_in_range();
         self.windows.step(self.alloc, id, change)
+    }
+
+    /// The tab is changed, where it is there. It takes no memory.
+    pub fn edit_tab(&mut self, id: i32, edit: TabEdit)
+        ensures stands { is_some (find_row int_cmp tab_key id self.old.tabs) ≡ true →
+            self.new ≡ on_tab id (edited_tab edit) self.old }
+        ensures absent { find_row int_cmp tab_key id self.old.tabs ≡ None → self.new ≡ self.old }
+    {
+        // The length says that the tabs are in order.
+        let _len = self.tabs.len();
+        edit.known_in_range();
+        self.tabs.edit(id, edit);
+    }
+
+    /// The window is changed, where it is there. It takes no memory.
+    pub fn edit_window(&mut self, id: i32, edit: WindowEdit)
+        ensures stands { stands id self.old.windows ≡ true → self.new ≡ on_window id (edited_window edit) self.old }
+        ensures absent { stands id self.old.windows ≡ false → self.new ≡ self.old }
+    {
+        // The length says that the windows are in order.
+        let _len = self.windows.len();
+        edit.known_in_range();
+        self.windows.edit(id, edit);
     }
 
     /// The group takes the place of the one with its token, or is put in.

@@ -2,12 +2,12 @@
 ghost use Rattle.std.specs.Prelude.{◌≡◌, ℤ, refl, IfOk, OnOk, OnErr};
 ghost use Rattle.std.proofs.lemmas.Map.Lookups.{exact_signed};
 ghost use Rattle.window_state.specs.Keys.{tab_key};
-ghost use Rattle.window_state.specs.Changes.{new_tab, stepped_tab, changed_tab};
+ghost use Rattle.window_state.specs.Changes.{new_tab, stepped_tab, changed_tab, edited_tab};
 
-use crate::change::{TabChange, TabStep};
+use crate::change::{TabChange, TabEdit, TabStep};
 use crate::current;
 use crate::extra::Extra;
-use crate::rows::{Changing, Row};
+use crate::rows::{Changing, Editing, Row};
 use crate::tab::{Tab, TabInfo};
 use std::alloc::{AllocError, Global};
 use tab_pages::Pages;
@@ -74,6 +74,27 @@ impl Changing for Tab {
     }
 
     ghost fresh_key = { λ id. refl };
+}
+
+impl Editing for Tab {
+    type Edit = TabEdit;
+
+    ghost edited = { edited_tab };
+
+    fn edit(&mut self, edit: TabEdit) {
+        match edit {
+            TabEdit::Index(index) => self.index = index,
+            TabEdit::Current(index) => self.current = index,
+            TabEdit::PruneBack(index) => self.pages.prune_back(index),
+            TabEdit::PruneFront(count) => {
+                self.pages.prune_front(count);
+                self.current = current::front(count, self.current);
+            }
+            TabEdit::Pinned(pinned) => self.info.pinned = pinned,
+            TabEdit::Group(group) => self.info.group = group,
+            TabEdit::LastActive(time) => self.info.last_active = time,
+        }
+    }
 }
 
 fn change_tab(tab: &mut Tab, change: TabChange) -> Result<(), AllocError>

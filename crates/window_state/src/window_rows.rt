@@ -2,11 +2,11 @@
 ghost use Rattle.std.specs.Prelude.{◌≡◌, ℤ, refl, IfOk, OnOk, OnErr};
 ghost use Rattle.std.proofs.lemmas.Map.Lookups.{exact_signed};
 ghost use Rattle.window_state.specs.Keys.{window_key};
-ghost use Rattle.window_state.specs.Changes.{new_window, changed_window};
+ghost use Rattle.window_state.specs.Changes.{new_window, changed_window, edited_window};
 
-use crate::change::WindowChange;
+use crate::change::{WindowChange, WindowEdit};
 use crate::extra::Extra;
-use crate::rows::{Changing, Row};
+use crate::rows::{Changing, Editing, Row};
 use crate::window::{Window, WindowInfo};
 use std::alloc::{AllocError, Global};
 
@@ -88,4 +88,17 @@ impl Changing for Window {
     }
 
     ghost fresh_key = { λ id. refl };
+}
+
+impl Editing for Window {
+    type Edit = WindowEdit;
+
+    ghost edited = { edited_window };
+
+    fn edit(&mut self, edit: WindowEdit) {
+        match edit {
+            WindowEdit::Selected(index) => self.selected = index,
+            WindowEdit::Bounded(bounds) => self.info.bounds = Some(bounds),
+        }
+    }
 }
