@@ -1,5 +1,5 @@
 //! Entries in a vector, the newest last.
-ghost use Rattle.std.specs.Prelude.{◌≡◌, ◌<◌, ◌+◌, ◌≤◌, ℕ, true, false, length, slice_index_or, IfSome, IfNone, OnOk, OnErr};
+ghost use Rattle.std.specs.Prelude.{◌≡◌, ◌<◌, ◌+◌, ◌≤◌, ℕ, true, false, length, slice_index_or, IfOk, IfSome, IfNone, OnOk, OnErr};
 ghost use Rattle.closed_entries.specs.declared.entry.Entry.{Entry};
 ghost use Rattle.closed_entries.specs.LastItem.{on_last};
 ghost use Rattle.closed_entries.specs.Changes.{with_more, with_window};
@@ -8,7 +8,7 @@ ghost use Rattle.closed_entries.specs.Step.{has_id, with_entry, without_newest};
 use crate::closed_tab::ClosedTab;
 use crate::entry::Entry;
 use crate::limits::ENTRIES;
-use std::alloc::AllocError;
+use std::alloc::{AllocError, Global};
 
 /// A new entry goes last; where it is one too many, the oldest goes.
 pub(crate) fn push(entries: &mut Vec<Entry>, entry: Entry) -> Result<(), AllocError>
@@ -62,4 +62,15 @@ fn push_tab(entry: &mut Entry, tab: ClosedTab) -> Result<(), AllocError>
         Entry::Tab(_) => Ok(()),
         Entry::Window(window) => window.tabs.push(tab),
     }
+}
+
+/// The same entries, in memory of their own.
+pub(crate) fn copied(alloc: Global, entries: &[Entry]) -> Result<Vec<Entry>, AllocError>
+    ensures { IfOk result (λ v. v.items ≡ entries.now) }
+{
+    let mut copied = Vec::with_capacity(alloc, entries.len())?;
+    for entry in entries {
+        copied.push(entry.copy()?)?;
+    }
+    Ok(copied)
 }

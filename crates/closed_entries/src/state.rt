@@ -76,13 +76,25 @@ impl ClosedState {
         self.awaited
     }
 
+    /// The same state, in memory of its own: it takes time and memory for all that the entries hold.
+    pub fn copy(&self) -> Result<ClosedState, AllocError>
+        ensures { IfOk result (λ s. s ≡ self.now) }
+    {
+        let entries = entry_list::copied(self.allocator(), self.entries())?;
+        Ok(ClosedState {
+            entries: Items::from_vec(entries),
+            open_entry: self.open_entry,
+            awaited: self.awaited,
+        })
+    }
+
     /// The allocator from which the state takes its memory.
     pub(crate) fn allocator(&self) -> Global {
         self.entries.allocator()
     }
 
     /// A new entry goes last, is open and awaits so many tabs; where it is one too many, the oldest goes.
-    pub(crate) fn open(&mut self, entry: Entry, awaited: u32) -> Result<(), AllocError>
+    pub fn open(&mut self, entry: Entry, awaited: u32) -> Result<(), AllocError>
         requires entry { IsEntry entry }
         requires room { 0 < awaited → HasRoom awaited entry }
         ensures ok { OnOk result (self.new ≡ opened entry awaited self.old) }

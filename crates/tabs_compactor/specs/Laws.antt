@@ -2,6 +2,7 @@
 pub mod TabRuns
 pub mod WindowRuns
 pub mod FoldsBack
+pub mod EntryRuns
 pub mod Counts
 pub mod Plain
 pub mod TabsLaws

@@ -1,3 +1,4 @@
 pub mod Compaction
+pub mod Tidying
 pub mod TabsKind
 pub mod Laws

@@ -1,12 +1,12 @@
--- The commands of tab-restore files and closed entries as a kind of machine. Nothing is tidied yet, and no command
--- covers another.
-use Rattle.std.specs.Prelude.{false, []}
+-- The commands of tab-restore files and closed entries as a kind of machine. No command covers another.
+use Rattle.std.specs.Prelude.{false}
 use Rattle.machine_law.specs.Kind.{Kind}
 use Rattle.tab_restore_commands.specs.declared.command.TabsCommand.{TabsCommand}
 use Rattle.tab_restore_commands.specs.Table.{Payload, IsSound, IsInRange, id_of, payload_of}
 use Rattle.closed_entries.specs.States.{State, start}
 use Rattle.closed_entries.specs.Step.{step}
 use Rattle.tabs_compactor.specs.Compaction.{compaction, weight}
+use Rattle.tabs_compactor.specs.Tidying.{tidying}
 
 abbrev pub tabs_kind : Kind State TabsCommand
 tabs_kind = record {
@@ -14,7 +14,7 @@ tabs_kind = record {
   step = step;
   compaction = compaction;
   weight = weight;
-  tidying = λ state. [];
+  tidying = tidying;
   id = id_of;
   payload = payload_of;
   Payload = Payload;

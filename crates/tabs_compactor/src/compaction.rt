@@ -53,7 +53,7 @@ fn push_whole(
     Ok(())
 }
 
-fn push_entry(
+pub(crate) fn push_entry(
     alloc: Global,
     entry: &Entry,
     awaited: u32,

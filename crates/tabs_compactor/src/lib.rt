@@ -11,9 +11,13 @@
 #![tactic(auto)]
 
 mod compaction;
+mod entry;
 mod machine;
 mod tab;
+mod tidying;
 mod weight;
 mod window;
 
+pub use entry::entry_commands;
 pub use machine::TabsMachine;
+pub use tidying::tidy;

@@ -4,7 +4,7 @@ ghost use Rattle.closed_entries.specs.States.{IsState};
 ghost use Rattle.tabs_compactor.specs.TabsKind.{tabs_kind, IsCommand};
 ghost use Rattle.tabs_compactor.specs.Laws.TabsLaws.{tabs_lawful};
 
-use crate::compaction;
+use crate::{compaction, tidying};
 use closed_entries::ClosedState;
 use machine_law::Machine;
 use std::alloc::{AllocError, Global};
@@ -41,8 +41,8 @@ impl Machine for TabsMachine {
         compaction::of(alloc, state)
     }
 
-    fn tidy(alloc: Global, _state: &ClosedState) -> Result<Vec<TabsCommand>, AllocError> {
-        Ok(Vec::new(alloc))
+    fn tidy(alloc: Global, state: &ClosedState) -> Result<Vec<TabsCommand>, AllocError> {
+        tidying::tidy(alloc, state)
     }
 
     fn read(alloc: Global, id: u8, payload: &[u8]) -> Result<TabsCommand, AllocError> {

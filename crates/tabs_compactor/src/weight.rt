@@ -21,7 +21,7 @@ fn of_entries(entries: &[Entry]) -> usize
     weight
 }
 
-fn of_entry(entry: &Entry) -> usize
+pub(crate) fn of_entry(entry: &Entry) -> usize
     ensures { result ≡ min (entry_weight entry.now) usize.MAX }
 {
     match entry {

@@ -22,7 +22,7 @@ none zero never = refl
 none (suc n) never = absurd (never (omega arith))
 
 -- an entry behind those before it, none of whose tabs is awaited
-leads-entry : (s : State) (entry : Entry) (awaited : ℕ) → length s.entries < ENTRIES → s.awaited ≡ 0 → (0 < awaited → HasRoom awaited entry) → IsEntry entry
+pub leads-entry : (s : State) (entry : Entry) (awaited : ℕ) → length s.entries < ENTRIES → s.awaited ≡ 0 → (0 < awaited → HasRoom awaited entry) → IsEntry entry
     → Leads tabs_kind s (entry_commands awaited entry) (ending s.entries entry true awaited)
 leads-entry s (Tab t) awaited below waits room is =
     subst (λ n. Leads tabs_kind s (tab_commands t) (ending s.entries (Tab t) true n)) (sym (none awaited room))

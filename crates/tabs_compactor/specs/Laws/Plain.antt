@@ -71,7 +71,7 @@ pub room_for : (awaited : ℕ) (w : ClosedWindow) → IsWindow w → (0 < awaite
 room_for zero w is room = let few = is.few in omega arith
 room_for (suc n) w is room = room (omega arith)
 
-plain_entry : (awaited : ℕ) (entry : Entry) → (0 < awaited → HasRoom awaited entry) → IsEntry entry → ArePlain (entry_commands awaited entry)
+pub plain_entry : (awaited : ℕ) (entry : Entry) → (0 < awaited → HasRoom awaited entry) → IsEntry entry → ArePlain (entry_commands awaited entry)
 plain_entry awaited (Tab t) room is = plain_tab t is
 plain_entry awaited (Window w) room is = plain_window awaited w (room_for awaited w is room) is
 
