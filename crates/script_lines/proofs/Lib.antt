@@ -1,3 +1,8 @@
 pub mod LineLaws
-pub mod TabLineReading
-pub mod TabLineLaws
+pub mod FieldLaws
+pub mod NumberLaws
+pub mod ReadingLaws
+pub mod UnitLaws
+pub mod RangeLaws
+pub mod GeneratorLaws
+mod WorkedLines

@@ -1,4 +1,4 @@
-//! A text cut into lines and a line into fields, in one pass and with no memory.
+//! A text cut into lines, in one pass and with no memory.
 ghost use Rattle.std.specs.Prelude.{◌≡◌, ◌∷◌, ◌<◌, length, MatchOption};
 ghost use Rattle.script_lines.specs.Lines.{Lacks, CutsAt, lines};
 
