@@ -1,0 +1,15 @@
+pub mod Running
+pub mod Browsers
+pub mod Amounts
+pub mod Navigations
+pub mod Beginnings
+pub mod Pictures
+pub mod Tabs
+pub mod Opening
+pub mod OneTab
+pub mod OneWindow
+pub mod Closing
+pub mod Entries
+pub mod Moving
+pub mod Tidying
+pub mod Tidied
