@@ -1,10 +1,11 @@
--- The commands of a session and its state as a kind of machine. Nothing is tidied yet, and no command covers another.
-use Rattle.std.specs.Prelude.{false, []}
+-- The commands of a session and its state as a kind of machine. No command covers another.
+use Rattle.std.specs.Prelude.{false}
 use Rattle.machine_law.specs.Kind.{Kind}
 use Rattle.session_commands.specs.declared.command.SessionCommand.{SessionCommand}
 use Rattle.session_commands.specs.Table.{Payload, IsSound, IsInRange, id_of, payload_of}
 use Rattle.window_state.specs.States.{State, start}
 use Rattle.replay_machine.specs.Step.{step}
+use Rattle.browser_model.specs.Tidying.{tidying}
 use Rattle.compactor.specs.session.Compaction.{compaction, weight}
 
 abbrev pub session_kind : Kind State SessionCommand
@@ -13,7 +14,7 @@ session_kind = record {
   step = step;
   compaction = compaction;
   weight = weight;
-  tidying = λ state. [];
+  tidying = tidying;
   id = id_of;
   payload = payload_of;
   Payload = Payload;

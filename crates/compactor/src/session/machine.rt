@@ -41,8 +41,8 @@ impl Machine for SessionMachine {
         compaction::of(alloc, state)
     }
 
-    fn tidy(alloc: Global, _state: &SessionState) -> Result<Vec<SessionCommand>, AllocError> {
-        Ok(Vec::new(alloc))
+    fn tidy(alloc: Global, state: &SessionState) -> Result<Vec<SessionCommand>, AllocError> {
+        session_tidying::tidy(alloc, state)
     }
 
     fn read(alloc: Global, id: u8, payload: &[u8]) -> Result<SessionCommand, AllocError> {

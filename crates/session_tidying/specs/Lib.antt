@@ -1,0 +1,3 @@
+pub mod ShownTabs
+pub mod Gaps
+pub mod Active
