@@ -1,0 +1,9 @@
+pub mod JobLaws
+pub mod CourseLaws
+pub mod AnswerLaws
+pub mod HoldingLaws
+pub mod WorkLaws
+pub mod OpeningLaws
+pub mod AccountLaws
+pub mod InOrderLaws
+pub mod RunLaws

@@ -1,0 +1,6 @@
+use Rattle.writer_core.specs.declared.item.Item.TheVariants as item
+use Rattle.writer_core.proofs.InOrderLaws.{CommandsLeft}
+use Rattle.writer_core.proofs.in_order.handle_tabs.Given as goal
+
+abbrev pub invariant-loop-command : goal.invariant-loop-command
+invariant-loop-command g l = CommandsLeft item.Tabs g.T.Machine.is_command l.fn.commands.items l.command-iterator l.fn.writers l.writers

@@ -1,0 +1,41 @@
+use Rattle.std.proofs.Common.{Result, Ok, ◌≡◌, [], ◌∷◌, sym, ap, ◌∙◌, subst}
+use Rattle.fresh_files.specs.Rotation.{IsMomentOf}
+use Rattle.log_writer.specs.Faults.{plain}
+use Rattle.log_writer.specs.declared.fault.JournalFault.{JournalFault}
+use Rattle.writer_core.specs.Working.{Syncs, Works}
+use Rattle.writer_core.specs.declared.item.Job.{Job}
+use Rattle.writer_core.specs.declared.item.Job.TheVariants as job
+use Rattle.writer_core.proofs.WorkLaws.{write_works, sync_works, sync_holds, compact_works, nothing_works}
+use Rattle.writer_core.proofs.working.work.Goals.{in-Ok, in-Err}
+use Rattle.writer_core.proofs.working.work.Goals as goal
+
+pub returns-after-write-clause-works : goal.returns-after-write-clause-works
+returns-after-write-clause-works g c =
+    let e = c.write.ensures in
+    let same : c.match-write.result ≡ plain c.write.result = elim c.match-write.branch [ in-Ok w ↦ w.result-is ∙ sym (ap plain w.in-Ok.is) | in-Err w ↦ w.result-is ∙ sym (ap plain w.in-Err.is) ] in
+    subst (λ (todo : Job g.row.M-Command.Denot). Works (todo ∷ []) c.args.journal.now c.write.new.self c.match-write.result) (sym c.in-Write.is)
+    (subst (λ (r : Result (Unit {0}) JournalFault). Works (job.Write c.in-Write.command ∷ []) c.args.journal.now c.write.new.self r) (sym same)
+    (write_works c.args.journal.now c.write.new.self c.requires.works (plain c.write.result) (IsMomentOf g.C.Clock.modelled (g.C.Clock.moment c.args.clock.now)) c.in-Write.command e.answers e.makes e.follows e.crash))
+
+pub returns-in-Sync-clause-works : goal.returns-in-Sync-clause-works
+returns-in-Sync-clause-works g c =
+    let e = c.sync.ensures in
+    subst (λ (todo : Job g.row.M-Command.Denot). Works (todo ∷ []) c.args.journal.now c.sync.new.self c.sync.result) (sym c.in-Sync.is)
+    (sync_works c.args.journal.now c.sync.new.self c.requires.works c.sync.result e.answers e.told e.follows e.crash)
+
+pub returns-in-Sync-clause-syncs : goal.returns-in-Sync-clause-syncs
+returns-in-Sync-clause-syncs g c =
+    let e = c.sync.ensures in
+    subst (λ (todo : Job g.row.M-Command.Denot). Syncs todo c.args.journal.now c.sync.new.self c.sync.result) (sym c.in-Sync.is)
+    (sync_holds c.args.journal.now c.sync.new.self c.requires.works c.sync.result e.told e.follows e.at_rest e.crash)
+
+pub returns-in-Compact-clause-works : goal.returns-in-Compact-clause-works
+returns-in-Compact-clause-works g c =
+    let e = c.compact.ensures in
+    subst (λ (todo : Job g.row.M-Command.Denot). Works (todo ∷ []) c.args.journal.now c.compact.new.self c.compact.result) (sym c.in-Compact.is)
+    (compact_works c.args.journal.now c.compact.new.self c.requires.works c.compact.result (IsMomentOf g.C.Clock.modelled (g.C.Clock.moment c.args.clock.now)) e.answers e.makes e.follows e.crash)
+
+pub returns-in-Nothing-clause-works : goal.returns-in-Nothing-clause-works
+returns-in-Nothing-clause-works g c =
+    let unit : Unit {0} = tt in
+    subst (λ (todo : Job g.row.M-Command.Denot). Works (todo ∷ []) c.args.journal.now c.args.journal.now (Ok unit)) (sym c.in-Nothing.is) (nothing_works unit c.args.journal.now)
