@@ -7,7 +7,8 @@
 //! An image has to read to the state after a prefix of the commands, with every told one in it. The disk is blamed
 //! where a call of it failed, and nowhere else.
 
-use crate::recovered::{state_of, states_of};
+use crate::prefixes::prefixes;
+use crate::recovered::restated;
 use crate::runs::{Found, Outcome, run_over};
 use crate::setting::Setting;
 use case_files::CaseFault;
@@ -68,8 +69,7 @@ impl<'a> Trials<'a> {
         family: Family,
         words: &'a str,
     ) -> Result<Trials<'a>, CaseFault> {
-        let script = setting.script.as_slice();
-        let prefixes = states_of(alloc, family, found.side(family), script)?;
+        let prefixes = prefixes(alloc, found, setting, family)?;
         Ok(Trials {
             alloc,
             found,
@@ -179,7 +179,7 @@ impl<'a> Trials<'a> {
     // What an image of the disk reads to.
     fn state_after(&self, outcome: &Outcome, image: &[Keep]) -> Result<String, CaseFault> {
         match outcome.disk(self.family).disk.crash(image)? {
-            Some(mut left) => state_of(self.alloc, self.family, &mut left),
+            Some(mut left) => restated(self.alloc, self.family, &mut left),
             None => Err(CaseFault::Malformed("no crash leaves such an image")),
         }
     }

@@ -2,7 +2,9 @@
 //! what is left. Each word names a file of cases; the crate `case_files` says how one is written.
 #![tactic(auto)]
 
+mod commands;
 mod crashes;
+mod frames;
 mod noted_disk;
 mod prefixes;
 mod recovered;

@@ -1,40 +1,46 @@
-//! The states after each prefix of the commands of a script, as text.
+//! What the files of a family read to after each prefix of the commands that a script issues to it, restated as text.
 
+use crate::frames::frames;
+use crate::recovered::restated;
+use crate::runs::{Found, run_over};
+use crate::setting::Setting;
 use case_files::CaseFault;
-use disk_cases::{SafeFile, described, resting, state_of, tab_command, two_ids};
-use replay_machine::apply;
-use std::alloc::{AllocError, Global};
-use std::str;
-use window_state::SessionState;
+use disk_cases::{SafeFile, resting};
+use session_disk::Family;
+use std::alloc::Global;
 
-/// The state to which the files read, then the state after each line of the script, up to the first that is no tab.
+/// The words of a run whose commands all stand in one file.
+const IN_ONE_FILE: &str = "run --every 1099511627776 d";
+
+/// The states, from that of no command on. The commands are those that a run issues in which nothing fails and no fresh
+/// file comes between.
 pub(crate) fn prefixes(
     alloc: Global,
-    files: &[SafeFile],
-    script: &[u8],
+    found: &Found,
+    setting: &Setting,
+    family: Family,
 ) -> Result<Vec<String>, CaseFault> {
-    let mut disk = resting(alloc, files)?;
-    let mut state = state_of(alloc, &mut disk)?;
-    let mut texts = Vec::new(alloc);
-    texts.push(described(alloc, &state)?)?;
-    for line in script.split(|byte| *byte == b'\n') {
-        let Some(ids) = tab_of(line) else {
-            return Ok(texts);
-        };
-        put_tab(&mut state, ids)?;
-        texts.push(described(alloc, &state)?)?;
+    let setting = setting.uncompacted(alloc)?;
+    let session = found.session.disk(alloc, &[])?;
+    let tabs = found.tabs.disk(alloc, &[])?;
+    let outcome = run_over(alloc, &setting, IN_ONE_FILE, session, tabs)?;
+    match outcome.disk(family).disk.files().last() {
+        Some(file) => cut_states(alloc, family, file.bytes.as_slice()),
+        None => Err(CaseFault::Malformed("the run makes no file")),
     }
-    Ok(texts)
 }
 
-fn tab_of(line: &[u8]) -> Option<(i32, i32)> {
-    let Ok(line) = str::from_utf8(line) else {
-        return None;
-    };
-    two_ids(line.strip_prefix("tab ")?).ok()
-}
-
-fn put_tab(state: &mut SessionState, ids: (i32, i32)) -> Result<(), AllocError> {
-    let (window, tab) = ids;
-    apply(state, &tab_command(window, tab))
+// What a file reads to where it ends with its marker, and where it ends with each frame behind that.
+fn cut_states(alloc: Global, family: Family, file: &[u8]) -> Result<Vec<String>, CaseFault> {
+    let mut states = Vec::new(alloc);
+    let mut is_marked = false;
+    for frame in &frames(alloc, file)? {
+        is_marked = is_marked || frame.is_marker();
+        if is_marked {
+            let bytes = Vec::from_slice(alloc, file.get(..frame.end).unwrap_or(&[]))?;
+            let mut disk = resting(alloc, &[SafeFile { stamp: 0, bytes }])?;
+            states.push(restated(alloc, family, &mut disk)?)?;
+        }
+    }
+    Ok(states)
 }

@@ -1,13 +1,16 @@
-//! What the files of either family read to, as text, and the texts after each prefix of a script's commands.
+//! What the files of either family read to, as text.
 
-use crate::prefixes::prefixes;
-use crate::side::Side;
 use case_files::CaseFault;
-use disk_cases::{closed_text, resting, state_text};
+use compactor::SessionMachine;
+use disk_cases::{closed_text, state_text, write_bytes};
+use file_rotation::{RotateFault, recover};
+use fresh_files::fresh_file;
+use machine_law::Machine;
 use session_disk::{Family, MemoryDisk};
 use std::alloc::Global;
+use tabs_compactor::TabsMachine;
 
-/// What the files of a disk read to.
+/// What the files of a disk read to, in few words.
 pub(crate) fn state_of(
     alloc: Global,
     family: Family,
@@ -19,21 +22,26 @@ pub(crate) fn state_of(
     }
 }
 
-/// The states after each prefix of the commands that a script issues to a family. None goes to the closed entries.
-pub(crate) fn states_of(
+/// The bytes of a file that restates what the files of a disk read to, which no other state has.
+pub(crate) fn restated(
     alloc: Global,
     family: Family,
-    side: &Side,
-    script: &[u8],
-) -> Result<Vec<String>, CaseFault> {
-    let files = side.files.as_slice();
+    disk: &mut MemoryDisk,
+) -> Result<String, CaseFault> {
     match family {
-        Family::Session => prefixes(alloc, files, script),
-        Family::Tabs => {
-            let mut disk = resting(alloc, files)?;
-            let mut texts = Vec::new(alloc);
-            texts.push(closed_text(alloc, &mut disk)?)?;
-            Ok(texts)
+        Family::Session => restated_by::<SessionMachine>(alloc, disk),
+        Family::Tabs => restated_by::<TabsMachine>(alloc, disk),
+    }
+}
+
+fn restated_by<M: Machine>(alloc: Global, disk: &mut MemoryDisk) -> Result<String, CaseFault> {
+    match recover::<M, MemoryDisk>(alloc, disk) {
+        Ok(found) => {
+            M::known_state(&found.state);
+            let bytes = fresh_file::<M>(alloc, &found.state)?;
+            Ok(write_bytes(alloc, bytes.as_slice())?)
         }
+        Err(RotateFault::Memory) => Err(CaseFault::Memory),
+        Err(RotateFault::Disk) => Err(CaseFault::Malformed("the disk fails")),
     }
 }

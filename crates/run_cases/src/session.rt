@@ -2,25 +2,34 @@
 //! them. What a run finds stands before it, as `setting.rt` has it; then the steps are
 //!
 //! - `words WORD WORD ..`: a run with these words, `""` for an empty one, over the files that stand
+//! - `try LINE`: the last line of a run with the words `run d`, of the script so far with this line behind it, which
+//!   leaves the files and the script as they were
 //! - `images WORDS`, `crashes WORDS`, as `crashes.rt` has them
 //! - `fail FAILURE, ..`: calls of the disk that fail in the next run
 //! - `bytes STAMP`: the bytes of a file
+//! - `restated STAMP`, `commands STAMP`: the commands of a file before its marker, and those behind it, as
+//!   `commands.rt` has them
 //! - `state`: what the files read to
 //! - `crash STAMP:LENGTH ..`: what a crash leaves of the disk after the last run
 //!
 //! They are about the session's disk, and behind the word `tabs` about that of the closed entries, where `tabs add
 //! STAMP BYTES` adds a file and `tabs left` says what the last run left.
 
+use crate::commands::commands_text;
 use crate::crashes::{Trials, crashes_answer, images_answer};
+use crate::frames::{frames, parted};
 use crate::recovered::state_of;
 use crate::runs::{Found, run};
 use crate::setting::Setting;
 use crate::side::Side;
 use crate::transcripts::{left_text, transcript};
 use case_files::{CaseFault, Transcript, first_word};
-use disk_cases::{SafeFile, number, put_answer, read_failures, read_file, read_files, resting};
+use disk_cases::{
+    SafeFile, put_answer, read_failures, read_file, read_files, resting, write_bytes,
+};
 use session_disk::Family;
 use std::alloc::Global;
+use std::str;
 
 /// The cases of whole runs.
 pub(crate) struct RunCases;
@@ -68,6 +77,7 @@ impl Session {
         }
         match verb {
             "words" => self.run(rest),
+            "try" => self.try_line(rest),
             "tabs" => self.step_of_tabs(rest),
             _ => self.step_of(Family::Session, verb, rest),
         }
@@ -97,7 +107,15 @@ impl Session {
                 self.found.side_mut(family).failures = failures;
                 Ok(String::new(alloc))
             }
-            "bytes" => self.found.side(family).bytes(alloc, number(rest)?),
+            "bytes" => Ok(write_bytes(alloc, self.found.side(family).file(rest)?)?),
+            "restated" => {
+                let frames = frames(alloc, self.found.side(family).file(rest)?)?;
+                commands_text(alloc, family, parted(&frames).0)
+            }
+            "commands" => {
+                let frames = frames(alloc, self.found.side(family).file(rest)?)?;
+                commands_text(alloc, family, parted(&frames).1)
+            }
             "state" => {
                 let mut disk = resting(alloc, self.found.side(family).files.as_slice())?;
                 state_of(alloc, family, &mut disk)
@@ -112,6 +130,22 @@ impl Session {
 
     fn trials<'a>(&'a self, family: Family, words: &'a str) -> Result<Trials<'a>, CaseFault> {
         Trials::new(self.alloc, &self.found, &self.setting, family, words)
+    }
+
+    fn try_line(&self, line: &str) -> Result<String, CaseFault> {
+        let mut setting = Setting::new(self.alloc, self.setting.clock);
+        setting
+            .script
+            .extend_from_slice(self.setting.script.as_slice())?;
+        setting.put_line(self.alloc, line)?;
+        let outcome = run(self.alloc, &self.found, &setting, "run d")?;
+        match str::from_utf8(outcome.printed.as_slice()) {
+            Ok(printed) => Ok(String::from_str(
+                self.alloc,
+                printed.lines().last().unwrap_or("nothing"),
+            )?),
+            Err(_) => Err(CaseFault::Malformed("the run printed what is no text")),
+        }
     }
 
     fn run(&mut self, words: &str) -> Result<String, CaseFault> {

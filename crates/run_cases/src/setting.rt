@@ -3,12 +3,13 @@
 //! - `clock N`: where the clock stands from here on, at 100 where no step says
 //! - `> LINE`: a line of the script
 //! - `each FIRST LAST LINE`: a line for each number, in the place of %
+//! - `padded N LINE`: a line with letters x behind it, up to N bytes
 //! - `script BYTES`: bytes of the script, which need not end a line
 //! - `source failing N N ..`, `sink failing N N ..`: reads of the source and writes of the sink that fail
 
-use case_files::CaseFault;
+use case_files::{CaseFault, first_word};
 use disk_cases::{number, numbers, plain_bytes};
-use std::alloc::Global;
+use std::alloc::{AllocError, Global};
 
 #[derive(Drop)]
 pub(crate) struct Setting {
@@ -29,6 +30,18 @@ impl Setting {
         }
     }
 
+    /// The same script with empty lines in the place of those that say `compact`, and no failures.
+    pub(crate) fn uncompacted(&self, alloc: Global) -> Result<Setting, AllocError> {
+        let mut setting = Setting::new(alloc, self.clock);
+        for line in self.script.split(|byte| *byte == b'\n') {
+            if line != b"compact".as_slice() {
+                setting.script.extend_from_slice(line)?;
+            }
+            setting.script.push(b'\n')?;
+        }
+        Ok(setting)
+    }
+
     /// Takes a step, and answers whether it is such a one.
     pub(crate) fn takes(
         &mut self,
@@ -40,6 +53,7 @@ impl Setting {
             "clock" => self.clock = number(rest)?,
             ">" => self.put_line(alloc, rest)?,
             "each" => self.put_each(alloc, rest)?,
+            "padded" => self.put_padded(alloc, rest)?,
             "script" => self.put_bytes(alloc, rest)?,
             "source" => self.failing_reads = failing(alloc, rest)?,
             "sink" => self.failing_writes = failing(alloc, rest)?,
@@ -53,9 +67,19 @@ impl Setting {
         Ok(self.script.extend_from_slice(bytes.as_slice())?)
     }
 
-    fn put_line(&mut self, alloc: Global, text: &str) -> Result<(), CaseFault> {
+    /// Puts a line behind the script.
+    pub(crate) fn put_line(&mut self, alloc: Global, text: &str) -> Result<(), CaseFault> {
         self.put_bytes(alloc, text)?;
         Ok(self.script.push(b'\n')?)
+    }
+
+    fn put_padded(&mut self, alloc: Global, text: &str) -> Result<(), CaseFault> {
+        let (length, line) = first_word(text);
+        let length = number(length)?.min(100_000) as usize;
+        let mut line = plain_bytes(alloc, line)?;
+        line.resize(length.max(line.len()), b'x')?;
+        line.push(b'\n')?;
+        Ok(self.script.extend_from_slice(line.as_slice())?)
     }
 
     fn put_each(&mut self, alloc: Global, text: &str) -> Result<(), CaseFault> {

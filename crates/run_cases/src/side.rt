@@ -2,7 +2,7 @@
 
 use crate::noted_disk::NotedDisk;
 use case_files::CaseFault;
-use disk_cases::{SafeFile, left, read_keeps, resting, write_bytes};
+use disk_cases::{SafeFile, left, number, read_keeps, resting};
 use session_disk::Failure;
 use std::alloc::Global;
 
@@ -49,10 +49,11 @@ impl Side {
     }
 
     /// The bytes of a file.
-    pub(crate) fn bytes(&self, alloc: Global, stamp: u64) -> Result<String, CaseFault> {
+    pub(crate) fn file(&self, stamp: &str) -> Result<&[u8], CaseFault> {
+        let stamp = number(stamp)?;
         for file in self.files.as_slice() {
             if file.stamp == stamp {
-                return Ok(write_bytes(alloc, file.bytes.as_slice())?);
+                return Ok(file.bytes.as_slice());
             }
         }
         Err(CaseFault::Malformed("no file has this stamp"))

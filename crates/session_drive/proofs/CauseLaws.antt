@@ -1,17 +1,19 @@
 -- Causes of answers: wider ones, and those of one step of a run among those of the whole.
-use Rattle.std.proofs.Common.{◌≡◌, ◌⊎◌, ℕ, ◌-◌, ◌<◌, ◌^◌, refl, sym, ◌∙◌, subst, inl, inr}
+use Rattle.std.proofs.Common.{◌≡◌, ◌⊎◌, ℕ, ◌<◌, Option, None, Some, sym, subst, inl, inr}
 use Rattle.session_disk.specs.Causes.{Rose}
 use Rattle.session_disk.specs.declared.family.Family.{Family}
 use Rattle.log_writer.specs.declared.fault.JournalFault.{JournalFault}
 use Rattle.log_writer.specs.declared.fault.JournalFault.TheVariants as fault
-use Rattle.session_drive.specs.declared.status.Status.{Status}
-use Rattle.session_drive.specs.declared.status.Status.TheVariants.{Done, Usage, Refused, LastStamp, Disk, Read, Write, TooLong, Memory}
-use Rattle.session_drive.specs.declared.status.Long.TheVariants.{Script, File}
+use Rattle.writer_core.specs.Working.{FaultCause}
+use Rattle.run_words.specs.declared.status.Status.{Status}
+use Rattle.run_words.specs.declared.status.Status.TheVariants.{Done, Usage, Refused, LastStamp, Disk, Read, Write, TooLong, Memory}
+use Rattle.run_words.specs.declared.status.Long.TheVariants.{Script, File}
+use Rattle.run_words.specs.declared.why.Why.{Why}
+use Rattle.run_words.specs.Outcome.{unsaid}
+use Rattle.session_drive.specs.Answers.{IsFirst, status_of}
 use Rattle.session_drive.specs.Causes.{Causes, HasCause}
-use Rattle.session_drive.specs.Issuing.{FaultCause}
-use Rattle.session_drive.specs.Outcome.{unsaid}
-use Rattle.session_drive.specs.Run.{IsDone, CallsNoDisk}
-use Rattle.session_drive.specs.Steps.{IsFirst, status_of}
+use Rattle.session_drive.specs.Run.{Found, CallsNoDisk, EndsFirst, IsDone, IsOver, answer_of, causes}
+use Rattle.run_words.specs.Words.{order_of}
 
 -- each cause is a cause of others
 pub record Implies (one other : Causes) : Type 0 where
@@ -48,7 +50,31 @@ not_answered causes none (TooLong w n) h done = done
 not_answered causes none Memory h done = done
 not_answered causes none (LastStamp d n) h done = done
 
+-- the answer to a whole script
+pub cause_answered : (causes : Causes) (answer : Status) → IsDone answer → causes.answered answer → HasCause causes answer
+cause_answered causes (Done s t) done h = h
+cause_answered causes (Refused l w) done h = h
+cause_answered causes Usage done h = absurd done
+cause_answered causes (Disk d) done h = absurd done
+cause_answered causes Read done h = absurd done
+cause_answered causes Write done h = absurd done
+cause_answered causes (TooLong w n) done h = absurd done
+cause_answered causes Memory done h = absurd done
+cause_answered causes (LastStamp d n) done h = absurd done
+
+pub answer_done : (refused : Option (ℕ × Why)) (session tabs : ℕ) → IsDone (answer_of refused session tabs)
+answer_done None session tabs = tt
+answer_done (Some refused) session tabs = tt
+
 -- a journal's fault as an answer
+
+-- a fault of which the accounts say exactly when it comes
+abbrev pub IsExact : JournalFault → Type 0
+IsExact (fault.AlreadyFailed first) = ⊥
+IsExact (fault.TooLong needed) = Unit {0}
+IsExact (fault.LastStamp stamp) = Unit {0}
+IsExact fault.Disk = ⊥
+IsExact fault.Memory = ⊥
 
 pub first_fault : (max_file before after : ℕ) (why : JournalFault) → FaultCause max_file before after why → IsFirst why
 first_fault max_file before after (fault.AlreadyFailed first) h = h
@@ -57,13 +83,14 @@ first_fault max_file before after (fault.LastStamp stamp) h = tt
 first_fault max_file before after fault.Disk h = tt
 first_fault max_file before after fault.Memory h = tt
 
-pub fault_caused : (causes : Causes) (family : Family) (max_file before after : ℕ) (why : JournalFault) → FaultCause max_file before after why → (Rose before after → causes.disk family) →
-    ((needed : ℕ) → why ≡ fault.TooLong needed → max_file < needed → causes.long_file family needed) → ((stamp : ℕ) → why ≡ fault.LastStamp stamp → stamp ≡ 2 ^ 63 - 1 → causes.last_stamp family stamp) → HasCause causes (status_of family why)
-fault_caused causes family max_file before after (fault.AlreadyFailed first) h disk long last = absurd h
-fault_caused causes family max_file before after (fault.TooLong needed) h disk long last = long needed refl h
-fault_caused causes family max_file before after (fault.LastStamp stamp) h disk long last = last stamp refl h
-fault_caused causes family max_file before after fault.Disk h disk long last = disk h
-fault_caused causes family max_file before after fault.Memory h disk long last = tt
+pub fault_caused : (found : Found) (read write : Type 0) (family : Family) (max_file before after : ℕ) (why : JournalFault) → FaultCause max_file before after why →
+    (Rose before after → Rose (found.entry family).failures (found.exit family).failures) → ((needed : ℕ) → max_file < needed → IsOver (order_of found.words) needed) → (IsExact why → EndsFirst found (status_of family why)) →
+    HasCause (causes found read write) (status_of family why)
+fault_caused found read write family max_file before after (fault.AlreadyFailed first) h rose over ends = absurd h
+fault_caused found read write family max_file before after (fault.TooLong needed) h rose over ends = (over needed h, ends tt)
+fault_caused found read write family max_file before after (fault.LastStamp stamp) h rose over ends = (h, ends tt)
+fault_caused found read write family max_file before after fault.Disk h rose over ends = rose h
+fault_caused found read write family max_file before after fault.Memory h rose over ends = tt
 
 pub fault_not_done : (family : Family) (why : JournalFault) → IsDone (status_of family why) → ⊥
 fault_not_done family (fault.AlreadyFailed first) done = done
@@ -71,13 +98,6 @@ fault_not_done family (fault.TooLong needed) done = done
 fault_not_done family (fault.LastStamp stamp) done = done
 fault_not_done family fault.Disk done = done
 fault_not_done family fault.Memory done = done
-
-pub fault_calls : (family : Family) (why : JournalFault) → CallsNoDisk (status_of family why) → ⊥
-fault_calls family (fault.AlreadyFailed first) calls = calls
-fault_calls family (fault.TooLong needed) calls = calls
-fault_calls family (fault.LastStamp stamp) calls = calls
-fault_calls family fault.Disk calls = calls
-fault_calls family fault.Memory calls = calls
 
 -- an answer that takes another one's place
 
@@ -115,11 +135,26 @@ pub closed_cause : (R : Type 0) (causes : Causes) (status answer : Status) → (
 closed_cause R causes status answer (inl same) h = subst (HasCause causes) (sym same) h
 closed_cause R causes status answer (inr other) h = subst (HasCause causes) (sym other.0) tt
 
-pub said_cause : (R : Type 0) (causes : Causes) (status answer : Status) → (R → causes.write) → (answer ≡ status) ⊎ ((answer ≡ unsaid status) × R) → HasCause causes status → HasCause causes answer
+said_cause : (R : Type 0) (causes : Causes) (status answer : Status) → (R → causes.write) → (answer ≡ status) ⊎ ((answer ≡ unsaid status) × R) → HasCause causes status → HasCause causes answer
 said_cause R causes status answer failed (inl same) h = subst (HasCause causes) (sym same) h
 said_cause R causes status answer failed (inr other) h = subst (HasCause causes) (sym other.0) (cause_unsaid causes status (failed other.1) h)
 
--- an answer that comes before a disk is called, and one that comes before the script is read
+-- The last line's answer: want of memory may have taken the place of a run's, and a sink that failed that of any.
+pub ended_cause : (Q R : Type 0) (found : Found) (read earlier write : Type 0) (status closed answer : Status) → (earlier → write) → (R → write) → (closed ≡ status) ⊎ ((closed ≡ Memory) × Q) → (answer ≡ closed) ⊎ ((answer ≡ unsaid closed) × R) →
+    HasCause (causes found read earlier) status → HasCause (causes found read write) answer
+ended_cause Q R found read earlier write status closed answer later failed first second cause =
+    said_cause R (causes found read write) closed answer failed second (closed_cause Q (causes found read write) status closed first (cause_implied (causes found read earlier) (causes found read write) (record {
+      usage = λ h. h;
+      read = λ h. h;
+      write = later;
+      long_script = λ needed h. h;
+      answered = λ answer h. h;
+      disk = λ family h. h;
+      long_file = λ family needed h. h;
+      last_stamp = λ family stamp h. h;
+    }) status cause))
+
+-- an answer that comes before a disk is called
 
 unsaid_calls : (status : Status) → CallsNoDisk (unsaid status) → CallsNoDisk status
 unsaid_calls (Done s t) h = absurd h
@@ -140,19 +175,3 @@ closed_calls Q status closed (inr other) h = absurd (subst CallsNoDisk other.0 h
 pub calls_before : (R Q : Type 0) (status closed answer : Status) → (closed ≡ status) ⊎ ((closed ≡ Memory) × Q) → (answer ≡ closed) ⊎ ((answer ≡ unsaid closed) × R) → CallsNoDisk answer → CallsNoDisk status
 calls_before R Q status closed answer first (inl same) h = closed_calls Q status closed first (subst CallsNoDisk same h)
 calls_before R Q status closed answer first (inr other) h = closed_calls Q status closed first (unsaid_calls closed (subst CallsNoDisk other.0 h))
-
-unsaid_usage : (status : Status) → unsaid status ≡ Usage → ⊥
-unsaid_usage (Done s t) e = cc
-unsaid_usage Usage e = cc
-unsaid_usage (Refused l w) e = cc
-unsaid_usage (Disk d) e = cc
-unsaid_usage Read e = cc
-unsaid_usage Write e = cc
-unsaid_usage (TooLong w n) e = cc
-unsaid_usage Memory e = cc
-unsaid_usage (LastStamp d n) e = cc
-
-pub usage_before : (R Q : Type 0) (status closed answer : Status) → (closed ≡ status) ⊎ ((closed ≡ Memory) × Q) → (answer ≡ closed) ⊎ ((answer ≡ unsaid closed) × R) → answer ≡ Usage → status ≡ Usage
-usage_before R Q status closed answer (inl first) (inl same) e = sym first ∙ sym same ∙ e
-usage_before R Q status closed answer (inr memory) (inl same) e = absurd (let other = memory.0 in cc)
-usage_before R Q status closed answer first (inr other) e = absurd (unsaid_usage closed (sym other.0 ∙ e))

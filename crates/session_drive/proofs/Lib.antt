@@ -1,11 +1,5 @@
-pub mod WordLaws
-pub mod ShownLaws
-pub mod CourseLaws
-pub mod LineLaws
-pub mod IssueLaws
-pub mod ScriptLaws
+pub mod GeneratedLaws
 pub mod CauseLaws
+pub mod EndLaws
 pub mod OutputLaws
-pub mod OpeningLaws
-pub mod FirstLaws
 pub mod RunLaws

@@ -1,13 +1,16 @@
 -- The steps of a run joined: why it answers so, what it has said, and what it leaves on both disks.
-use Rattle.std.proofs.Common.{◌≡◌, ◌⊎◌, ℕ, ◌<◌, ◌≤◌, List, [], length, Option, Some, None, IfSome, IsSome, refl, sym, ap, ◌∙◌, subst, arith}
+use Rattle.std.proofs.Common.{◌≡◌, ℕ, ◌<◌, List, [], ◌∷◌, ◌++◌, length, Option, Some, None, IfSome, Result, Ok, Err, refl, sym, ap, ◌∙◌, subst, inl, inr, arith}
+use Rattle.std.proofs.lemmas.List.{append-nil}
+use Rattle.std.proofs.Math.Path.{fun_ext}
+use Rattle.session_disk.specs.Histories.{History, Leaves}
 use Rattle.session_disk.specs.declared.family.Family.{Family}
 use Rattle.session_disk.specs.declared.family.Family.TheVariants.{Session, Tabs}
-use Rattle.session_disk.specs.Histories.{History, Leaves}
 use Rattle.log_writer.specs.Journals.{IsReady}
 use Rattle.log_writer.specs.Log.{Log, IsLeft}
 use Rattle.log_writer.specs.Opening.{Seen}
 use Rattle.log_writer.specs.declared.limits.Limits.{Limits}
 use Rattle.log_writer.specs.declared.fault.JournalFault.{JournalFault}
+use Rattle.log_writer.specs.declared.fault.JournalFault.TheVariants as fault
 use Rattle.log_writer.proofs.ForeignLaws.{waits_left, longer_left}
 use Rattle.window_state.specs.States.{IsState as IsSession}
 use Rattle.closed_entries.specs.States.{IsState as IsClosed}
@@ -15,69 +18,83 @@ use Rattle.compactor.specs.session.SessionKind.{IsCommand as IsSessionCommand}
 use Rattle.compactor.specs.session.Laws.SessionLaws.{session_lawful}
 use Rattle.tabs_compactor.specs.TabsKind.{IsCommand as IsTabsCommand}
 use Rattle.tabs_compactor.specs.Laws.TabsLaws.{tabs_lawful}
-use Rattle.session_drive.specs.declared.shown.Counts.{Counts}
-use Rattle.session_drive.specs.declared.status.Status.{Status}
-use Rattle.session_drive.specs.declared.status.Status.TheVariants.{TooLong, LastStamp, Write, Memory}
-use Rattle.session_drive.specs.declared.status.Long.TheVariants.{File}
-use Rattle.session_drive.specs.Words.{Options, options, limits_of, script_max}
-use Rattle.session_drive.specs.Families.{StateOf, CommandOf, kind_of, issued_to}
+use Rattle.writer_core.specs.Accounts.{StopsFor}
+use Rattle.writer_core.specs.Course.{Options, options}
+use Rattle.writer_core.specs.Opening.{Opens, RefusesOpening, disks}
+use Rattle.writer_core.specs.Working.{Beginning, FaultCause, HoldsCommands}
+use Rattle.writer_core.specs.declared.handling.Stopped.{Stopped}
+use Rattle.writer_core.proofs.OpeningLaws.{beginning, on, opened_left, opened_state}
+use Rattle.run_words.specs.declared.status.Status.{Status}
+use Rattle.run_words.specs.declared.status.Status.TheVariants.{Write, Memory}
+use Rattle.run_words.specs.declared.why.Why.{Why}
+use Rattle.run_words.specs.Words.{Asked, order_of}
+use Rattle.script_run.specs.declared.halt.Halt.{Halt}
+use Rattle.script_run.specs.declared.halt.Halt.TheVariants as halt
+use Rattle.script_run.specs.Families.{CommandOf, Firsts, StateOf, kind_of}
+use Rattle.script_run.specs.Runs.{CutAt, HasRun, LeavesRun, Logs, RunHalted, RunsScript, SaysHalted, ShowsPicture, WhereOpened, said_behind_start, states_of}
+use Rattle.script_run.specs.Script.{course_of, steps_of}
+use Rattle.script_run.specs.Steps.{Step, Handle, issued_to, items_of, jobs_of, said_by}
+use Rattle.script_run.specs.Verdict.{Beginnings, RunAccounts, end_of, firsts_of, run_accounts}
+use Rattle.session_drive.specs.Answers.{RunsAs, answer_by, status_of}
+use Rattle.session_drive.specs.Attempt.{IsRunOf, SaysFirst}
 use Rattle.session_drive.specs.Causes.{HasCause}
-use Rattle.session_drive.specs.Course.{Course}
-use Rattle.session_drive.specs.Course as ending
-use Rattle.session_drive.specs.Issuing.{Beginning, Begins, HoldsCommands, IsOpened, LeftSince, course}
-use Rattle.session_drive.specs.FirstRefusal.{Beginnings, refusal, first_refusal}
-use Rattle.session_drive.specs.Opening.{Opens, RefusesOpening, disks}
-use Rattle.session_drive.specs.Outcome.{answer_of, answer_to, unsaid}
-use Rattle.session_drive.specs.Printed.{IsStart, Prints, SaysFirst}
-use Rattle.session_drive.specs.Run.{Found, BeginsAt, ComesTo, ComesFirst, IsOver, IsRunOf, LeavesScript, Opened, ShowsStart, causes}
-use Rattle.session_drive.specs.declared.journals.Stopped.{Stopped}
-use Rattle.session_drive.specs.Issued.{refused_line}
-use Rattle.session_drive.specs.Journals.{HoldsAll, LeavesAll, Logs, Reaches, RunsScript, ShowStates, StopsScript, WhereOpened, script_causes}
-use Rattle.session_drive.specs.Shown.{Shows}
-use Rattle.session_drive.specs.Steps.{read_causes, start_causes, status_of}
-use Rattle.session_drive.proofs.CauseLaws.{cause_implied, closed_cause, fault_caused, fault_not_done, not_answered, said_cause}
-use Rattle.session_drive.proofs.FirstLaws.{session_first, tabs_first, script_first}
-use Rattle.session_drive.proofs.OpeningLaws.{stops_long, stops_last, beginning, on, opened_state, opened_left}
-use Rattle.session_drive.proofs.OutputLaws.{first_shown, prints_answer, prints_fault, prints_nothing, prints_refused, read_said}
+use Rattle.session_drive.specs.Reading.{IsAsked, read_causes}
+use Rattle.session_drive.specs.Run.{Found, BeginsAt, EndsBehind, IsAtOpening, IsCutBy, IsOver, LeavesScript, Opened, SaysCut, Started, WhereBegun, WhereKnown, answer_of, answer_to, causes, script_from, script_of}
+use Rattle.session_drive.proofs.CauseLaws.{IsExact, answer_done, cause_answered, cause_implied, fault_caused, fault_not_done, not_answered}
+use Rattle.session_drive.proofs.EndLaws.{ended_by, opening_stays, session_stops, tabs_stop}
+use Rattle.session_drive.proofs.OutputLaws.{fault_said, read_said, script_said, writes_nothing, writes_weaken}
 
 -- what holds of both families
 pub each : (P : Family → Type 0) → P Session → P Tabs → (family : Family) → P family
 each P session tabs Session = session
 each P session tabs Tabs = tabs
 
--- the script that was read is the source's, where that is modelled
-told_text : (P : List ℕ → Type 0) (left : Option (List ℕ)) (text : List ℕ) → IfSome left (λ all. text ≡ all) → P text → IfSome left P
+-- a text that is known is the one that is there
+told_text : (P : List ℕ → Type 0) (known : Option (List ℕ)) (text : List ℕ) → IfSome known (λ all. text ≡ all) → P text → IfSome known P
 told_text P None text e h = tt
 told_text P (Some all) text e h = subst P e h
 
-any_text : (P : List ℕ → Type 0) (left : Option (List ℕ)) → ((text : List ℕ) → P text) → IfSome left P
+any_text : (P : List ℕ → Type 0) (known : Option (List ℕ)) → ((text : List ℕ) → P text) → IfSome known P
 any_text P None h = tt
 any_text P (Some all) h = h all
-
--- the limits that the words ask for are those that were read
-words_so : (wanted : Options) (limits : Limits) (found : Option Options) → found ≡ Some wanted → found ≡ Some (options limits) → wanted ≡ options limits
-words_so wanted limits found e f = cc
 
 -- a disk that waits for a run leaves what is good for any commands
 waits : (family : Family) (old new : History) (first : StateOf family) → new ≡ old → IsReady (kind_of family) old.now first → (q : List (CommandOf family)) → Leaves old new (IsLeft (kind_of family) old.now first q)
 waits Session old new first same ready q = longer_left (kind_of Session) old new first [] q (waits_left (kind_of Session) IsSession IsSessionCommand session_lawful old.now first ready old new refl same)
 waits Tabs old new first same ready q = longer_left (kind_of Tabs) old new first [] q (waits_left (kind_of Tabs) IsClosed IsTabsCommand tabs_lawful old.now first ready old new refl same)
 
+-- what a crash leaves on the disk of a family
+abbrev LeftOn : Found → (family : Family) → Firsts → List ℕ → Type 0
+LeftOn found family firsts text = Leaves (found.entry family).history (found.exit family).history (IsLeft (kind_of family) (found.entry family).history.now (firsts family) (issued_to family (steps_of firsts text)))
+
 -- an answer for a fault of the journal of this family
 pub as_stopped : (P : Status → Type 0) (status : Status) (stopped : Stopped) (family : Family) → status ≡ status_of stopped.family stopped.fault → stopped.family ≡ family → P (status_of family stopped.fault) → P status
 as_stopped P status stopped family is same h = subst P (sym is) (subst (λ (f : Family). P (status_of f stopped.fault)) (sym same) h)
-
-pub stops_as : (modelled : Type 0) (text : List ℕ) (old : Logs) (exit : Family → Seen) (stopped : Stopped) (family : Family) → stopped.family ≡ family → StopsScript modelled text old exit (record { family = family; fault = stopped.fault }) → StopsScript modelled text old exit stopped
-stops_as modelled text old exit stopped family same h = subst (λ (f : Family). StopsScript modelled text old exit (record { family = f; fault = stopped.fault })) (sym same) h
 
 -- disks that were handed back
 pub closed_disks : {D : Type 0} (history : D → History) (failed : D → ℕ) (session tabs first second : D) → session ≡ first → tabs ≡ second → disks history failed session tabs ≡ disks history failed first second
 closed_disks {D} history failed session tabs first second e f = ap (λ (d : D). disks history failed d tabs) e ∙ ap (λ (d : D). disks history failed first d) f
 
+-- a fault that the accounts say exactly
+
+at_opening : (found : Found) (family : Family) (why : JournalFault) → (IsExact why → WhereBegun found (λ b. end_of b [] ≡ Some (status_of family why))) → IsAtOpening found (status_of family why)
+at_opening found family (fault.AlreadyFailed first) ends = tt
+at_opening found family (fault.TooLong needed) ends = ends tt
+at_opening found family (fault.LastStamp stamp) ends = ends tt
+at_opening found family fault.Disk ends = tt
+at_opening found family fault.Memory ends = tt
+
+cut_by : (found : Found) (family : Family) (why : JournalFault) (done left : List Step) → (IsExact why → EndsBehind found done left (status_of family why)) → IsCutBy found done left (status_of family why)
+cut_by found family (fault.AlreadyFailed first) done left ends = tt
+cut_by found family (fault.TooLong needed) done left ends = ends tt
+cut_by found family (fault.LastStamp stamp) done left ends = ends tt
+cut_by found family fault.Disk done left ends = tt
+cut_by found family fault.Memory done left ends = tt
+
 -- there is no script
-pub not_read : (found : Found) (read write : Type 0) (written : Option (List ℕ)) (status : Status) → ((family : Family) → found.exit family ≡ found.entry family) → HasCause (read_causes found.words found.text read) status → IsRunOf found read write written written status
+pub not_read : (found : Found) (read write : Type 0) (written : Option (List ℕ)) (status : Status) → ((family : Family) → found.exit family ≡ found.entry family) → HasCause (read_causes (order_of found.words) found.text read) status → IsRunOf found read write written written status
 not_read found read write written status same cause = record {
-  cause = cause_implied (read_causes found.words found.text read) (causes found read write) (record {
+  cause = cause_implied (read_causes (order_of found.words) found.text read) (causes found read write) (record {
     usage = λ h. h;
     read = λ h. h;
     write = λ h. absurd h;
@@ -87,187 +104,196 @@ not_read found read write written status same cause = record {
     long_file = λ family needed h. absurd h;
     last_stamp = λ family stamp h. absurd h;
   }) status cause;
-  output = prints_nothing written written (SaysFirst (ShowsStart found) status) refl (read_said (ShowsStart found) found.words found.text read status cause);
-  cut = λ write. absurd (let none : HasCause (read_causes found.words found.text read) Write = subst (HasCause (read_causes found.words found.text read)) write cause in none);
-  done = λ done. absurd (not_answered (read_causes found.words found.text read) (λ answer h. h) status cause done);
-  crash = λ family modelled first ready. any_text (λ text. Leaves (found.entry family).history (found.exit family).history (IsLeft (kind_of family) (found.entry family).history.now first (issued_to family text))) found.text
-      (λ text. waits family (found.entry family).history (found.exit family).history first (ap (λ (s : Seen). s.history) (same family)) ready (issued_to family text));
+  output = writes_nothing written (SaysFirst found status) (read_said found (order_of found.words) found.text read status cause);
+  done = λ done. absurd (not_answered (read_causes (order_of found.words) found.text read) (λ answer h. h) status cause done);
+  picture = λ done. absurd (not_answered (read_causes (order_of found.words) found.text read) (λ answer h. h) status cause done);
+  crash = λ modelled firsts ready. any_text (λ text. (family : Family) → LeftOn found family firsts text) (script_of found)
+      (λ text family. waits family (found.entry family).history (found.exit family).history (firsts family) (ap (λ (s : Seen). s.history) (same family)) (ready family) (issued_to family (steps_of firsts text)));
 }
 
-module _ (found : Found) (limits : Limits) (asked : limits_of found.words ≡ Some (options limits)) (script : List ℕ) (told : IfSome found.text (λ all. script ≡ all)) where
+module _ (found : Found) (limits : Limits) (script : List ℕ) (a : IsAsked (order_of found.words) found.text script limits) where
   same_options : (family : Family) (b : Beginning (StateOf family)) → BeginsAt found family b → b.options ≡ options limits
-  same_options family b at = words_so b.options limits (limits_of found.words) at.asked asked
+  same_options family b at =
+      let same : at.asked ≡ a.asked = let e = sym at.is ∙ a.is in cc in
+      at.options ∙ ap (λ (asked : Asked). asked.options) same ∙ a.limited
 
-  is_over : (needed : ℕ) → limits.max_file < needed → IsOver (limits_of found.words) needed
-  is_over needed over = subst (λ (o : Option Options). IsOver o needed) (sym asked) over
+  is_over : (needed : ℕ) → limits.max_file < needed → IsOver (order_of found.words) needed
+  is_over needed over =
+      let here : a.asked.options.max_file < needed = subst (λ (o : Options). o.max_file < needed) (sym a.limited) over in
+      subst (λ (o : Option Asked). IsOver o needed) (sym a.is) here
 
-  comes_to : (family : Family) (end : Course (StateOf family) (CommandOf family)) →
-      (found.modelled → (b : Beginning (StateOf family)) → b.options ≡ options limits → Begins (kind_of family) (found.entry family).history b → course (kind_of family) b (issued_to family script) ≡ end) → ComesTo found family end
-  comes_to family end f modelled b at = told_text (λ text. course (kind_of family) b (issued_to family text) ≡ end) found.text script told (f modelled b (same_options family b at) at.begins)
+  known : (P : List ℕ → Type 0) → P script → IfSome (script_of found) P
+  known P h = told_text P (script_of found) script (subst (λ (o : Option Asked). IfSome (script_from found.text o) (λ all. script ≡ all)) (sym a.is) a.script.known) h
 
-  comes_first : (status : Status) → (found.modelled → (b : Beginnings) → ((family : Family) → BeginsAt found family (b family)) → first_refusal b script ≡ Some status) → ComesFirst found status
-  comes_first status f modelled b at = told_text (λ text. first_refusal b text ≡ Some status) found.text script told (f modelled b at)
-
-  leaves : (family : Family) (first : StateOf family) → ((q : List (CommandOf family)) → Leaves (found.entry family).history (found.exit family).history (IsLeft (kind_of family) (found.entry family).history.now first q)) →
-      IfSome found.text (λ text. Leaves (found.entry family).history (found.exit family).history (IsLeft (kind_of family) (found.entry family).history.now first (issued_to family text)))
-  leaves family first f = any_text (λ text. Leaves (found.entry family).history (found.exit family).history (IsLeft (kind_of family) (found.entry family).history.now first (issued_to family text))) found.text (λ text. f (issued_to family text))
-
-  -- an opening was refused, the other disk being left so
+  -- an opening was refused, with this left on the disks
   opening_refused : (family : Family) (read write : Type 0) (written : Option (List ℕ)) (why : JournalFault) → RefusesOpening (kind_of family) found.modelled limits (found.entry family) (found.exit family) why →
-      ((end : Course (StateOf family) (CommandOf family)) (status : Status) → found.modelled → (b : Beginnings) → ((family : Family) → BeginsAt found family (b family)) → course (kind_of family) (b family) [] ≡ end → refusal family end ≡ Some status → first_refusal b script ≡ Some status) →
-      LeavesScript found → IsRunOf found read write written written (status_of family why)
-  opening_refused family read write written why r first crash = record {
-    cause = fault_caused (causes found read write) family limits.max_file (found.entry family).failures (found.exit family).failures why r.cause (λ rose. rose)
-        (λ needed is over. (
-          is_over needed over,
-          comes_to family (ending.TooLong needed) (λ modelled b same begins. stops_long (course (kind_of family) b (issued_to family script)) why needed is (r.stops modelled b same begins (issued_to family script))),
-          comes_first (TooLong (File family) needed) (λ modelled b at.
-              first (ending.TooLong needed) (TooLong (File family) needed) modelled b at (stops_long (course (kind_of family) (b family) []) why needed is (r.stops modelled (b family) (same_options family (b family) (at family)) (at family).begins [])) refl),
-        ))
-        (λ stamp is last. (
-          last,
-          comes_to family ending.LastStamp (λ modelled b same begins. stops_last (course (kind_of family) b (issued_to family script)) why stamp is (r.stops modelled b same begins (issued_to family script))),
-          comes_first (LastStamp family stamp) (λ modelled b at.
-              first ending.LastStamp (LastStamp family stamp) modelled b at (stops_last (course (kind_of family) (b family) []) why stamp is (r.stops modelled (b family) (same_options family (b family) (at family)) (at family).begins [])) (ap (λ (n : ℕ). Some (LastStamp family n)) (sym last))),
-        ));
-    output = prints_refused written (ShowsStart found) family why;
-    cut = λ write. subst IsSome (sym asked) refl;
-    done = λ done. absurd (fault_not_done family why done);
-    crash = crash;
-  }
+      WhereBegun found (λ b. StopsFor (run_accounts b []) family why) → LeavesScript found → IsRunOf found read write written written (status_of family why)
+  opening_refused family read write written why r stops crash =
+      let ends = λ (exact : IsExact why) (x : RunAccounts) (h : StopsFor x family why). ended_by x family limits.max_file (found.entry family).failures (found.exit family).failures why r.cause exact h in
+      record {
+        cause = fault_caused found read write family limits.max_file (found.entry family).failures (found.exit family).failures why r.cause (λ rose. rose) is_over
+            (λ exact modelled b at. known (λ text. end_of b (items_of (steps_of (firsts_of b) text)) ≡ Some (status_of family why))
+            (let items = items_of (steps_of (firsts_of b) script) in ends exact (run_accounts b items) (opening_stays b items family why (stops modelled b at))));
+        output = writes_nothing written (SaysFirst found (status_of family why)) (fault_said found family why []
+            (inl (at_opening found family why (λ exact modelled b at. ends exact (run_accounts b []) (stops modelled b at)), refl)));
+        done = λ done. absurd (fault_not_done family why done);
+        picture = λ done. absurd (fault_not_done family why done);
+        crash = crash;
+      }
 
   pub session_refused : (read write : Type 0) (written : Option (List ℕ)) (why : JournalFault) → RefusesOpening (kind_of Session) found.modelled limits (found.entry Session) (found.exit Session) why → found.exit Tabs ≡ found.entry Tabs →
       IsRunOf found read write written written (status_of Session why)
-  session_refused read write written why r same = opening_refused Session read write written why r (λ end status modelled b at e f. session_first b script end status e f)
-      (each (λ family. found.modelled → (first : StateOf family) → IsReady (kind_of family) (found.entry family).history.now first → IfSome found.text (λ text. Leaves (found.entry family).history (found.exit family).history (IsLeft (kind_of family) (found.entry family).history.now first (issued_to family text))))
-      (λ modelled first ready. leaves Session first (λ q. longer_left (kind_of Session) (found.entry Session).history (found.exit Session).history first [] q (r.left modelled first ready)))
-      (λ modelled first ready. leaves Tabs first (λ q. waits Tabs (found.entry Tabs).history (found.exit Tabs).history first (ap (λ (s : Seen). s.history) same) ready q)))
+  session_refused read write written why r same = opening_refused Session read write written why r
+      (λ modelled b at. session_stops b why (r.stops modelled (b Session) (same_options Session (b Session) (at Session)) (at Session).begins []))
+      (λ modelled firsts ready. known (λ text. (family : Family) → LeftOn found family firsts text) (each (λ family. LeftOn found family firsts script)
+      (longer_left (kind_of Session) (found.entry Session).history (found.exit Session).history (firsts Session) [] (issued_to Session (steps_of firsts script)) (r.left modelled (firsts Session) (ready Session)))
+      (waits Tabs (found.entry Tabs).history (found.exit Tabs).history (firsts Tabs) (ap (λ (s : Seen). s.history) same) (ready Tabs) (issued_to Tabs (steps_of firsts script)))))
 
-  -- the journal that was opened goes, by its account
-  goes : (family : Family) (l : Log (StateOf family)) → Opens (kind_of family) found.modelled limits (found.entry family) l → found.modelled → (b : Beginnings) → BeginsAt found family (b family) → IsOpened (kind_of family) (b family)
-  goes family l o modelled b at = let on = o.begins modelled (b family) (same_options family (b family) at) at.begins in (on.account, on.is)
-
+  -- a journal that was opened goes, by its account
   pub opened : (family : Family) (l : Log (StateOf family)) → Opens (kind_of family) found.modelled limits (found.entry family) l → Opened found family
   opened family l o modelled b at = let on = o.begins modelled b (same_options family b at) at.begins in (on.account, on.is)
 
   pub tabs_refused : (read write : Type 0) (written : Option (List ℕ)) (why : JournalFault) (l : Log (StateOf Session)) → Opens (kind_of Session) found.modelled limits (found.entry Session) l → (found.exit Session).history ≡ l.history →
       RefusesOpening (kind_of Tabs) found.modelled limits (found.entry Tabs) (found.exit Tabs) why → IsRunOf found read write written written (status_of Tabs why)
-  tabs_refused read write written why l o closed r = opening_refused Tabs read write written why r (λ end status modelled b at e f. tabs_first b script (goes Session l o modelled b (at Session)) end status e f)
-      (each (λ family. found.modelled → (first : StateOf family) → IsReady (kind_of family) (found.entry family).history.now first → IfSome found.text (λ text. Leaves (found.entry family).history (found.exit family).history (IsLeft (kind_of family) (found.entry family).history.now first (issued_to family text))))
-      (λ modelled first ready. leaves Session first (λ q. subst (λ (h : History). Leaves (found.entry Session).history h (IsLeft (kind_of Session) (found.entry Session).history.now first q)) (sym closed) (opened_left (kind_of Session) found.modelled limits (found.entry Session) l o modelled first ready q)))
-      (λ modelled first ready. leaves Tabs first (λ q. longer_left (kind_of Tabs) (found.entry Tabs).history (found.exit Tabs).history first [] q (r.left modelled first ready))))
+  tabs_refused read write written why l o closed r = opening_refused Tabs read write written why r
+      (λ modelled b at. tabs_stop b (opened Session l o modelled (b Session) (at Session)) why (r.stops modelled (b Tabs) (same_options Tabs (b Tabs) (at Tabs)) (at Tabs).begins []))
+      (λ modelled firsts ready. known (λ text. (family : Family) → LeftOn found family firsts text) (each (λ family. LeftOn found family firsts script)
+      (subst (λ (h : History). Leaves (found.entry Session).history h (IsLeft (kind_of Session) (found.entry Session).history.now (firsts Session) (issued_to Session (steps_of firsts script)))) (sym closed)
+      (opened_left (kind_of Session) found.modelled limits (found.entry Session) l o modelled (firsts Session) (ready Session) (jobs_of Session (steps_of firsts script))))
+      (longer_left (kind_of Tabs) (found.entry Tabs).history (found.exit Tabs).history (firsts Tabs) [] (issued_to Tabs (steps_of firsts script)) (r.left modelled (firsts Tabs) (ready Tabs)))))
 
   -- the script was run over both journals
-  module _ (old : Logs) (opens : (family : Family) → Opens (kind_of family) found.modelled limits (found.entry family) (old family)) where
-    reaches : (family : Family) (end : Course (StateOf family) (CommandOf family)) → Reaches found.modelled script old found.exit family end → ComesTo found family end
-    reaches family end h = comes_to family end (λ modelled b same begins. h modelled b (same ∙ ap options (sym (opens family).limited)) ((opens family).begins modelled b same begins))
+  module _ (old new : Logs) (opens : (family : Family) → Opens (kind_of family) found.modelled limits (found.entry family) (old family))
+      (closed : (family : Family) → found.exit family ≡ record { history = (new family).history; failures = (new family).failures }) where
+    states_are : found.modelled → (firsts : Firsts) → ((family : Family) → IsReady (kind_of family) (found.entry family).history.now (firsts family)) → states_of old ≡ firsts
+    states_are modelled firsts ready = fun_ext (λ family. opened_state (kind_of family) found.modelled limits (found.entry family) (old family) (opens family) modelled (firsts family) (ready family))
 
-    reaches_first : (family : Family) (end : Course (StateOf family) (CommandOf family)) (status : Status) → Reaches found.modelled script old found.exit family end → refusal family end ≡ Some status → ComesFirst found status
-    reaches_first family end status h is = comes_first status (λ modelled b at.
-        script_first b script family (λ f. goes f (old f) (opens f) modelled b (at f)) end status
-        (h modelled (b family) (same_options family (b family) (at family) ∙ ap options (sym (opens family).limited)) ((opens family).begins modelled (b family) (same_options family (b family) (at family)) (at family).begins)) is)
+    begins_with : found.modelled → (b : Beginnings) → ((family : Family) → BeginsAt found family (b family)) → states_of old ≡ firsts_of b
+    begins_with modelled b at = states_are modelled (firsts_of b) (λ family. (at family).begins.ready)
 
-    shown : (counts : Counts) → ShowStates old counts → ShowsStart found counts
-    shown counts shows family = (
-      opened family (old family) (opens family),
-      λ modelled first ready. subst (λ (s : StateOf family). Shows family s counts) (opened_state (kind_of family) found.modelled limits (found.entry family) (old family) (opens family) modelled first ready) (shows family),
-    )
+    where_begun : (P : Beginnings → Type 0) → WhereOpened found.modelled old P → WhereBegun found P
+    where_begun P h modelled b at = h modelled b
+        (λ family. same_options family (b family) (at family) ∙ ap options (sym (opens family).limited))
+        (λ family. (opens family).begins modelled (b family) (same_options family (b family) (at family)) (at family).begins)
 
-    pub ran : (read write : Type 0) (written printed : Option (List ℕ)) (status : Status) → length script ≤ script_max → RunsScript found.modelled script old found.exit write written printed status → IsRunOf found read write written printed status
-    ran read write written printed status short run = record {
-      cause = cause_implied (script_causes found.modelled script old found.exit write) (causes found read write) (record {
-        usage = λ h. absurd h;
-        read = λ h. absurd h;
-        write = λ h. h;
-        long_script = λ needed h. absurd h;
-        answered = λ answer h. (record { run = subst IsSome (sym asked) refl; short = told_text (λ text. length text ≤ script_max) found.text script told short }, told_text (λ text. answer ≡ answer_to text) found.text script told h);
-        disk = λ family rose. omega (arith, rose, (opens family).later);
-        long_file = λ family needed h. (
-          is_over needed (subst (λ (l : Limits). l.max_file < needed) (opens family).limited h.0),
-          reaches family (ending.TooLong needed) h.1,
-          reaches_first family (ending.TooLong needed) (TooLong (File family) needed) h.1 refl,
-        );
-        last_stamp = λ family stamp h. (
-          h.0,
-          reaches family ending.LastStamp h.1,
-          reaches_first family ending.LastStamp (LastStamp family stamp) h.1 (ap (λ (n : ℕ). Some (LastStamp family n)) (sym h.0)),
-        );
-      }) status run.cause;
-      output = first_shown written printed (ShowStates old) (ShowsStart found) status shown run.output;
-      cut = λ write. subst IsSome (sym asked) refl;
-      done = λ done family modelled b at. told_text (λ text. HoldsCommands (kind_of family) b (found.exit family).history (issued_to family text)) found.text script told
-          (run.done done family modelled b (same_options family b at ∙ ap options (sym (opens family).limited)) ((opens family).begins modelled b (same_options family b at) at.begins));
-      crash = λ family modelled first ready. told_text (λ text. Leaves (found.entry family).history (found.exit family).history (IsLeft (kind_of family) (found.entry family).history.now first (issued_to family text))) found.text script told
-          (run.crash family modelled (beginning (kind_of family) found.modelled limits (found.entry family) (old family) (opens family) modelled first ready) (ap options (sym (opens family).limited))
-          (on (kind_of family) found.modelled limits (found.entry family) (old family) (opens family) modelled first ready));
+    where_known : (P : Beginnings → Firsts → List ℕ → Type 0) → WhereOpened found.modelled old (λ b. P b (states_of old) script) → WhereKnown found (λ b text. P b (firsts_of b) text)
+    where_known P h modelled b at = known (P b (firsts_of b))
+        (subst (λ (firsts : Firsts). P b firsts script) (begins_with modelled b at) (where_begun (λ b. P b (states_of old) script) h modelled b at))
+
+    abbrev started : Started found
+    started = record {
+      firsts = states_of old;
+      recovered = λ family modelled first ready. sym (opened_state (kind_of family) found.modelled limits (found.entry family) (old family) (opens family) modelled first ready);
+      opened = λ family. opened family (old family) (opens family);
+      text = script;
+      asked = a.asked;
+      is = a.is;
+      short = a.script.short;
+      known = known (λ text. script ≡ text) refl;
     }
 
--- a script over journals that are open
-module _ (modelled : Type 0) (text : List ℕ) (old : Logs) (exit : Family → Seen) (write : Type 0) (written printed : Option (List ℕ)) where
-  -- a crash at the start leaves what is good for any commands
-  start_left : (family : Family) → (exit family).history ≡ (old family).history → WhereOpened modelled text old exit family (λ b. LeftSince (kind_of family) b (exit family).history (issued_to family text))
-  start_left family same modelled b limited on =
-      subst (λ (h : History). LeftSince (kind_of family) b h (issued_to family text)) (sym same) (longer_left (kind_of family) b.entry (old family).history b.first [] (issued_to family text) on.left)
+    abbrev steps : List Step
+    steps = steps_of (states_of old) script
 
-  -- the line of a start wasn't written
-  pub start_refused : (status : Status) → HasCause (start_causes write) status → Prints written printed (SaysFirst (ShowStates old) status) → (exit Session).history ≡ (old Session).history → (exit Tabs).history ≡ (old Tabs).history →
-      RunsScript modelled text old exit write written printed status
-  start_refused status cause output session tabs = record {
-    cause = cause_implied (start_causes write) (script_causes modelled text old exit write) (record {
-      usage = λ h. absurd h;
-      read = λ h. absurd h;
-      write = λ h. h;
-      long_script = λ needed h. absurd h;
-      answered = λ answer h. absurd h;
-      disk = λ family h. absurd h;
-      long_file = λ family needed h. absurd h;
-      last_stamp = λ family stamp h. absurd h;
-    }) status cause;
-    output = output;
-    done = λ done. absurd (not_answered (start_causes write) (λ answer h. h) status cause done);
-    crash = each (λ family. WhereOpened modelled text old exit family (λ b. LeftSince (kind_of family) b (exit family).history (issued_to family text))) (start_left Session session) (start_left Tabs tabs);
-  }
+    exit_history : (family : Family) → (found.exit family).history ≡ (new family).history
+    exit_history family = ap (λ (s : Seen). s.history) (closed family)
 
-  -- all lines were read, or one was refused
-  answered : (refused : Option ℕ) (session tabs : ℕ) → refused ≡ refused_line text → session ≡ length (issued_to Session text) → tabs ≡ length (issued_to Tabs text) → answer_of refused session tabs ≡ answer_to text
-  answered refused session tabs e f g =
-      ap (λ (r : Option ℕ). answer_of r session tabs) e ∙ ap (λ (n : ℕ). answer_of (refused_line text) n tabs) f ∙ ap (λ (n : ℕ). answer_of (refused_line text) (length (issued_to Session text)) n) g
+    left : LeavesRun found.modelled old new script → LeavesScript found
+    left crash modelled firsts ready = known (λ text. (family : Family) → LeftOn found family firsts text) (λ family.
+        subst (λ (h : History). Leaves (found.entry family).history h (IsLeft (kind_of family) (found.entry family).history.now (firsts family) (issued_to family (steps_of firsts script)))) (sym (exit_history family))
+        (subst (λ (f : Firsts). Leaves (found.entry family).history (new family).history (IsLeft (kind_of family) (found.entry family).history.now (firsts family) (issued_to family (steps_of f script)))) (states_are modelled firsts ready)
+        (crash modelled (λ family. beginning (kind_of family) found.modelled limits (found.entry family) (old family) (opens family) modelled (firsts family) (ready family))
+        (λ family. ap options (sym (opens family).limited))
+        (λ family. on (kind_of family) found.modelled limits (found.entry family) (old family) (opens family) modelled (firsts family) (ready family)) family)))
 
-  cause_answered : (refused : Option ℕ) (session tabs : ℕ) → answer_of refused session tabs ≡ answer_to text → HasCause (script_causes modelled text old exit write) (answer_of refused session tabs)
-  cause_answered None session tabs e = e
-  cause_answered (Some line) session tabs e = e
+    module _ (read write : Type 0) (written printed : Option (List ℕ)) (crash : LeavesRun found.modelled old new script) where
+      -- to its end, or to a line that is refused
+      answer_is : (refused : Option (ℕ × Why)) → HasRun found.modelled old new script written printed refused → answer_of refused (new Session).present.count (new Tabs).present.count ≡ answer_to (states_of old) script
+      answer_is refused h =
+          ap (λ (r : Option (ℕ × Why)). answer_of r (new Session).present.count (new Tabs).present.count) h.refused_is
+          ∙ ap (λ (n : ℕ). answer_of (course_of (states_of old) script).refused n (new Tabs).present.count) (h.counts Session)
+          ∙ ap (λ (n : ℕ). answer_of (course_of (states_of old) script).refused (length (issued_to Session steps)) n) (h.counts Tabs)
 
-  pub script_answered : (refused : Option ℕ) (session tabs : ℕ) → refused ≡ refused_line text → session ≡ length (issued_to Session text) → tabs ≡ length (issued_to Tabs text) →
-      Prints written printed (IsStart (ShowStates old)) → HoldsAll modelled text old exit → LeavesAll modelled text old exit → RunsScript modelled text old exit write written printed (answer_of refused session tabs)
-  script_answered refused session tabs e f g output holds leaves = record {
-    cause = cause_answered refused session tabs (answered refused session tabs e f g);
-    output = prints_answer written printed (ShowStates old) refused session tabs output;
-    done = λ done. holds;
-    crash = leaves;
-  }
+      run_whole : (refused : Option (ℕ × Why)) → HasRun found.modelled old new script written printed refused → IsRunOf found read write written printed (answer_of refused (new Session).present.count (new Tabs).present.count)
+      run_whole refused h =
+          let answer = answer_of refused (new Session).present.count (new Tabs).present.count in
+          let done = answer_done refused (new Session).present.count (new Tabs).present.count in
+          record {
+            cause = cause_answered (causes found read write) answer done
+                (started, answer_is refused h, where_known (λ b firsts text. end_of b (items_of (steps_of firsts text)) ≡ None) h.none_ends);
+            output = writes_weaken written printed (λ said. said ≡ said_behind_start (states_of old) steps) (SaysFirst found answer)
+                (λ said e. script_said found answer said done (started, answer_is refused h, e)) h.says;
+            done = λ _. where_known (λ b firsts text. (family : Family) → HoldsCommands (kind_of family) (b family) (found.exit family).history (jobs_of family (steps_of firsts text)))
+                (λ modelled b limited on family. subst (λ (now : History). HoldsCommands (kind_of family) (b family) now (jobs_of family steps)) (sym (exit_history family)) (h.holds modelled b limited on family));
+            picture = λ _. where_known (λ b firsts text. ShowsPicture firsts text) (λ modelled b limited on. h.shows);
+            crash = left crash;
+          }
 
-  -- a journal refused
-  pub script_stopped : (stopped : Stopped) → StopsScript modelled text old exit stopped → Prints written printed (IsStart (ShowStates old)) → LeavesAll modelled text old exit → RunsScript modelled text old exit write written printed (status_of stopped.family stopped.fault)
-  script_stopped stopped stops output leaves = record {
-    cause = fault_caused (script_causes modelled text old exit write) stopped.family (old stopped.family).limits.max_file (old stopped.family).failures (exit stopped.family).failures stopped.fault stops.cause (λ rose. rose)
-        (λ needed is over. (over, λ modelled b limited on. stops_long (course (kind_of stopped.family) b (issued_to stopped.family text)) stopped.fault needed is (stops.stops modelled b limited on)))
-        (λ stamp is last. (last, λ modelled b limited on. stops_last (course (kind_of stopped.family) b (issued_to stopped.family text)) stopped.fault stamp is (stops.stops modelled b limited on)));
-    output = prints_fault written printed (ShowStates old) stopped.family stopped.fault output;
-    done = λ done. absurd (fault_not_done stopped.family stopped.fault done);
-    crash = leaves;
-  }
+      -- a journal refused, or the sink failed, or memory ran out
+      cut_at : (stopped : Stopped) (done : List Step) (c : CutAt found.modelled old steps done stopped) → FaultCause (old stopped.family).limits.max_file (old stopped.family).failures (new stopped.family).failures stopped.fault →
+          IsExact stopped.fault → EndsBehind found done (Handle c.item ∷ c.rest) (status_of stopped.family stopped.fault)
+      cut_at stopped done c cause exact modelled b at = (
+        c.item,
+        c.rest,
+        refl,
+        where_begun (λ b. end_of b (items_of done) ≡ None) c.goes modelled b at,
+        ended_by (run_accounts b (items_of (done ++ Handle c.item ∷ []))) stopped.family (old stopped.family).limits.max_file (old stopped.family).failures (new stopped.family).failures stopped.fault cause exact
+            (where_begun (λ b. StopsFor (run_accounts b (items_of (done ++ Handle c.item ∷ []))) stopped.family stopped.fault) c.stops modelled b at),
+      )
 
--- The last line's answer: want of memory may have taken the place of a run's, and a sink that failed that of any.
-pub ended_cause : (Q R : Type 0) (found : Found) (read earlier write : Type 0) (status closed answer : Status) → (earlier → write) → (R → write) → (closed ≡ status) ⊎ ((closed ≡ Memory) × Q) → (answer ≡ closed) ⊎ ((answer ≡ unsaid closed) × R) →
-    HasCause (causes found read earlier) status → HasCause (causes found read write) answer
-ended_cause Q R found read earlier write status closed answer later failed first second cause =
-    said_cause R (causes found read write) closed answer failed second (closed_cause Q (causes found read write) status closed first (cause_implied (causes found read earlier) (causes found read write) (record {
-      usage = λ h. h;
-      read = λ h. h;
-      write = later;
-      long_script = λ needed h. h;
-      answered = λ answer h. h;
-      disk = λ family h. h;
-      long_file = λ family needed h. h;
-      last_stamp = λ family stamp h. h;
-    }) status cause))
+      said_done : (fault : Status) (done rest : List Step) (said : List ℕ) → done ++ rest ≡ steps → IsCutBy found done rest fault → said ≡ said_behind_start (states_of old) done → SaysCut found (λ more. more ≡ []) fault said
+      said_done fault done rest said parts cut e = record {
+        run = started;
+        done = done;
+        left = rest;
+        parts = parts;
+        cut = cut;
+        more = [];
+        says_more = refl;
+        is = rw (append-nil (said_by done)) e;
+      }
+
+      journal_halted : (stopped : Stopped) → RunHalted found.modelled write old new script written printed (halt.Journal stopped) → IsRunOf found read write written printed (status_of stopped.family stopped.fault)
+      journal_halted stopped h = record {
+        cause = fault_caused found read write stopped.family (old stopped.family).limits.max_file (old stopped.family).failures (new stopped.family).failures stopped.fault h.cause
+            (λ rose. omega (arith, rose, (opens stopped.family).later, ap (λ (s : Seen). s.failures) (closed stopped.family)))
+            (λ needed over. is_over needed (subst (λ (l : Limits). l.max_file < needed) (opens stopped.family).limited over))
+            (λ exact. where_known (λ b firsts text. end_of b (items_of (steps_of firsts text)) ≡ Some (status_of stopped.family stopped.fault)) (λ modelled b limited on.
+            ended_by (run_accounts b (items_of steps)) stopped.family (old stopped.family).limits.max_file (old stopped.family).failures (new stopped.family).failures stopped.fault h.cause exact (h.ends modelled b limited on)));
+        output = writes_weaken written printed (SaysHalted found.modelled old (states_of old) steps (halt.Journal stopped)) (SaysFirst found (status_of stopped.family stopped.fault)) (λ said (done, c, e). fault_said found stopped.family stopped.fault said
+            (inr (said_done (status_of stopped.family stopped.fault) done (Handle c.item ∷ c.rest) said c.parts (cut_by found stopped.family stopped.fault done (Handle c.item ∷ c.rest) (cut_at stopped done c h.cause)) e))) h.says;
+        done = λ done. absurd (fault_not_done stopped.family stopped.fault done);
+        picture = λ done. absurd (fault_not_done stopped.family stopped.fault done);
+        crash = left crash;
+      }
+
+      write_halted : RunHalted found.modelled write old new script written printed halt.Write → IsRunOf found read write written printed Write
+      write_halted h = record {
+        cause = h.cause;
+        output = writes_weaken written printed (SaysHalted found.modelled old (states_of old) steps halt.Write) (SaysFirst found Write) (λ said cut. (started, cut)) h.says;
+        done = λ done. absurd done;
+        picture = λ done. absurd done;
+        crash = left crash;
+      }
+
+      memory_says : (said : List ℕ) → SaysHalted found.modelled old (states_of old) steps halt.Memory said → SaysFirst found Memory said
+      memory_says said (inl e) = inl (tt, e)
+      memory_says said (inr (done, rest, parts, e)) = inr (said_done Memory done rest said parts tt e)
+
+      memory_halted : RunHalted found.modelled write old new script written printed halt.Memory → IsRunOf found read write written printed Memory
+      memory_halted h = record {
+        cause = tt;
+        output = writes_weaken written printed (SaysHalted found.modelled old (states_of old) steps halt.Memory) (SaysFirst found Memory) memory_says h.says;
+        done = λ done. absurd done;
+        picture = λ done. absurd done;
+        crash = left crash;
+      }
+
+      ran_by : (ran : Result (Option (ℕ × Why)) Halt) → RunsScript found.modelled write old new script written printed ran → IsRunOf found read write written printed (answer_by ran (new Session).present.count (new Tabs).present.count)
+      ran_by (Ok refused) h = run_whole refused h
+      ran_by (Err (halt.Journal stopped)) h = journal_halted stopped h
+      ran_by (Err halt.Write) h = write_halted h
+      ran_by (Err halt.Memory) h = memory_halted h
+
+    pub ran : (read write : Type 0) (written printed : Option (List ℕ)) (status : Status) → RunsAs found.modelled write old new script written printed status → LeavesRun found.modelled old new script → IsRunOf found read write written printed status
+    ran read write written printed status r crash = subst (IsRunOf found read write written printed) (sym r.is) (ran_by read write written printed crash r.ran r.runs)

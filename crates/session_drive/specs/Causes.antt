@@ -1,9 +1,10 @@
 -- What each answer of a run comes of.
 use Rattle.std.specs.Prelude.{ℕ}
 use Rattle.session_disk.specs.declared.family.Family.{Family}
-use Rattle.session_drive.specs.declared.status.Status.{Status}
-use Rattle.session_drive.specs.declared.status.Status.TheVariants.{Done, Usage, Refused, LastStamp, Disk, Read, Write, TooLong, Memory}
-use Rattle.session_drive.specs.declared.status.Long.TheVariants.{Script, File}
+use Rattle.run_words.specs.declared.status.Status.{Status}
+use Rattle.run_words.specs.declared.status.Status.TheVariants.{Done, Usage, Refused, LastStamp, Disk, Read, Write}
+use Rattle.run_words.specs.declared.status.Status.TheVariants.{TooLong, Memory}
+use Rattle.run_words.specs.declared.status.Long.TheVariants.{Script, File}
 
 -- A cause for each answer. The answers to a whole script, that all commands are told or a line is refused, share one.
 pub record Causes : Type 1 where

@@ -1,5 +1,5 @@
-//! One run of a script over the journals of both families: the words, the script, the commands of its lines, and what
-//! is printed. The outside comes in as values.
+//! One run of a script over the journals of both families: the words, the script, what its lines come to, and what is
+//! printed. The outside comes in as values.
 //!
 //! ```
 //! let mut words = Vec::new(alloc);
@@ -20,12 +20,11 @@
 //! ```
 #![tactic(auto)]
 
+mod answers;
+mod closing;
 mod drive;
-mod issuing;
-mod journals;
-mod shown;
-mod status;
-mod words;
+mod reading;
 
 pub use drive::drive_inline;
-pub use status::{Long, Status, Why};
+pub use run_words::{Long, Status, Why, wants_inline};
+pub use script_lines::generated;

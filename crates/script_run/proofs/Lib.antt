@@ -1,0 +1,17 @@
+pub mod StepLaws
+pub mod SayingLaws
+pub mod DoingLaws
+pub mod HandledLaws
+pub mod AskedLaws
+pub mod CourseLaws
+pub mod KeepingLaws
+pub mod OutcomeSteps
+pub mod GroupOrderLaws
+pub mod ClosedLaws
+pub mod PictureLaws
+pub mod FewLaws
+pub mod RunLaws
+pub mod EndLaws
+pub mod CountLaws
+pub mod LinesLaws
+pub mod WholeLaws

@@ -1,0 +1,14 @@
+pub mod Families
+pub mod Steps
+pub mod Script
+pub mod Verdict
+pub mod Counts
+pub mod Runs
+pub mod Doing
+pub mod Starting
+pub mod Closed
+pub mod Syncing
+pub mod Acting
+pub use Rattle.writer_core.specs.Accounts
+pub use Rattle.writer_core.specs.Working
+pub use Rattle.run_words.specs.Outcome
