@@ -11,13 +11,16 @@ from pathlib import Path
 
 LAUNCHER = Path(__file__).resolve().parent.parent / "cidranoth"
 LONGEST = 67_108_864
-LINES = b"tab 1 2\n" * 8192
+FIRST = b"window 1\n"
+LINE = b"active 1\n"
 
 
 def write_script(path, more):
+    lines, rest = divmod(LONGEST - len(FIRST), len(LINE))
     with open(path, "wb") as script:
-        for _ in range(LONGEST // len(LINES)):
-            script.write(LINES)
+        script.write(FIRST)
+        script.write(LINE * lines)
+        script.write(b"#" * rest)
         script.write(more)
 
 
@@ -36,5 +39,5 @@ def measure(more):
 
 
 if __name__ == "__main__":
-    measure(b"t")
+    measure(b"#")
     measure(b"")
