@@ -17,5 +17,5 @@ mod frame;
 mod header;
 
 pub use ending::{Ending, ending_of};
-pub use frame::{FrameRef, first_frame, write_frame};
+pub use frame::{FRAME_HEAD, FrameRef, PAYLOAD_MAX, complete_frame, first_frame, write_frame};
 pub use header::{HeaderFault, Version, read_header, write_header};
