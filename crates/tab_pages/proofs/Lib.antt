@@ -1,4 +1,5 @@
 pub mod PageLaws
+pub mod OverwriteLaws
 pub mod PartLaws
 pub mod JoinLaws
 pub mod CountLaws
