@@ -2,6 +2,7 @@ pub mod ExtraLaws
 pub mod RowLaws
 pub mod FindLaws
 pub mod EditLaws
+pub mod OverwriteLaws
 pub mod OnlyLaws
 pub mod OrderLaws
 pub mod ChangeLaws
