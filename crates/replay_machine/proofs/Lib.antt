@@ -1,3 +1,4 @@
 pub mod FitLaws
 pub mod ChangeLaws
+pub mod OverwriteLaws
 mod WorkedSteps
