@@ -50,6 +50,6 @@ pub record IsLawful {S C : Type 0} (kind : Kind S C) (IsState : S → Type 0) (I
   -- there is a marker, and it changes no state
   pub has_marker : (command : C) × IsMarker kind command
   pub marker : (state : S) (command : C) → IsMarker kind command → kind.step state command ≡ state
-  -- a command that is covered needn't be there
-  pub covered : (state : S) (first second : C) → IsState state → IsCommand first → IsCommand second → kind.covers first second ≡ true
+  -- a command that is covered needn't be there, whatever the state is
+  pub covered : (state : S) (first second : C) → kind.covers first second ≡ true
       → kind.step (kind.step state first) second ≡ kind.step state second

@@ -6,8 +6,9 @@ ghost use Rattle.machine_law.specs.Kind.{Kind, IsLawful, payload_limit};
 use std::alloc::{AllocError, Global};
 
 /// A state, its commands and their payloads. `kind` is what they mean as plain functions, and `lawful` its laws: a
-/// compaction folds to the very state, the marker changes none, a covered command needn't be there. The laws speak of
-/// states that meet `is_state` and commands that meet `is_command`, and every call gives and keeps such values.
+/// compaction folds to the very state, the marker changes none, a covered command needn't be there. The laws on
+/// compactions speak of states that meet `is_state`, and those on commands of any state. Every call gives and keeps
+/// states that meet `is_state` and commands that meet `is_command`.
 pub trait Machine {
     type State: Drop + Send;
 
@@ -63,7 +64,8 @@ pub trait Machine {
         ensures byte { kind.id command.now < 256 }
         ensures reads_back { kind.Payload (kind.id command.now) command.now (kind.payload command.now) };
 
-    /// Whether the first command changes nothing that the second doesn't. It takes no memory.
+    /// Whether the first command changes nothing that the second doesn't, so that the second alone leads to the same
+    /// state, from any state. It takes no memory.
     fn covers(first: &Self::Command, second: &Self::Command) -> bool
         ensures { result ≡ kind.covers first.now second.now };
 

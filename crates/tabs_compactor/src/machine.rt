@@ -57,6 +57,7 @@ impl Machine for TabsMachine {
         Ok(id)
     }
 
+    /// False for all commands. It takes no memory.
     fn covers(_first: &TabsCommand, _second: &TabsCommand) -> bool {
         false
     }

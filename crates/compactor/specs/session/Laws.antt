@@ -5,4 +5,5 @@ pub mod TabRuns
 pub mod FoldsBack
 pub mod Counts
 pub mod Plain
+pub mod CoveringLaws
 pub mod SessionLaws

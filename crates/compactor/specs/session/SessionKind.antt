@@ -1,5 +1,5 @@
--- The commands of a session and its state as a kind of machine. No command covers another.
-use Rattle.std.specs.Prelude.{false}
+-- The commands of a session and its state as a kind of machine. An update of a page covers an earlier one of the same
+-- page.
 use Rattle.machine_law.specs.Kind.{Kind}
 use Rattle.session_commands.specs.declared.command.SessionCommand.{SessionCommand}
 use Rattle.session_commands.specs.Table.{Payload, IsSound, IsInRange, id_of, payload_of}
@@ -7,6 +7,7 @@ use Rattle.window_state.specs.States.{State, start}
 use Rattle.replay_machine.specs.Step.{step}
 use Rattle.browser_model.specs.Tidying.{tidying}
 use Rattle.compactor.specs.session.Compaction.{compaction, weight}
+use Rattle.compactor.specs.session.Covering.{same_place}
 
 abbrev pub session_kind : Kind State SessionCommand
 session_kind = record {
@@ -18,7 +19,7 @@ session_kind = record {
   id = id_of;
   payload = payload_of;
   Payload = Payload;
-  covers = λ first second. false;
+  covers = same_place;
 }
 
 -- the payload can be written, and the numbers are in the ranges of their types

@@ -4,7 +4,7 @@ ghost use Rattle.window_state.specs.States.{IsState};
 ghost use Rattle.compactor.specs.session.SessionKind.{session_kind, IsCommand};
 ghost use Rattle.compactor.specs.session.Laws.SessionLaws.{session_lawful};
 
-use super::compaction;
+use super::{compaction, covering};
 use machine_law::Machine;
 use session_commands::SessionCommand;
 use std::alloc::{AllocError, Global};
@@ -57,8 +57,10 @@ impl Machine for SessionMachine {
         Ok(id)
     }
 
-    fn covers(_first: &SessionCommand, _second: &SessionCommand) -> bool {
-        false
+    /// True where both commands update the page at the same index of the same tab: the second puts its page in the
+    /// place of the first one's. It takes no memory.
+    fn covers(first: &SessionCommand, second: &SessionCommand) -> bool {
+        covering::same_place(first, second)
     }
 
     fn copy(command: &SessionCommand) -> Result<SessionCommand, AllocError> {

@@ -20,5 +20,5 @@ tabs_lawful = record {
   only = λ id payload command other first second. one_command command other id payload first second;
   has_marker = (Raw marker_command, marker_payload);
   marker = λ state command is. marker-leaves state command is;
-  covered = λ state first second is first_is second_is covers. absurd (true≢false (sym covers));
+  covered = λ state first second covers. absurd (true≢false (sym covers));
 }

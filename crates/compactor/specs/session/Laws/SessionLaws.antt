@@ -1,5 +1,4 @@
 -- The laws of a session's commands and states.
-use Rattle.std.proofs.Common.{true≢false, sym}
 use Rattle.session_commands.specs.declared.command.SessionCommand.TheVariants.{Raw}
 use Rattle.session_commands.proofs.MarkerLaws.{marker_command, marker_payload}
 use Rattle.session_commands.proofs.TableLaws.{one_command}
@@ -10,6 +9,7 @@ use Rattle.compactor.specs.session.Compaction.{compaction}
 use Rattle.compactor.specs.session.SessionKind.{session_kind, IsCommand}
 use Rattle.compactor.specs.session.Laws.FoldsBack.{folds_back}
 use Rattle.compactor.specs.session.Laws.Counts.{few}
+use Rattle.compactor.specs.session.Laws.CoveringLaws.{covered}
 use Rattle.compactor.specs.session.Laws.Plain.{IsPlain, plain, unmarked, marker-leaves}
 
 pub session_lawful : IsLawful session_kind IsState IsCommand
@@ -20,5 +20,5 @@ session_lawful = record {
   only = λ id payload command other first second. one_command command other id payload first second;
   has_marker = (Raw marker_command, marker_payload);
   marker = λ state command is. marker-leaves state command is;
-  covered = λ state first second is first_is second_is covers. absurd (true≢false (sym covers));
+  covered = covered;
 }
