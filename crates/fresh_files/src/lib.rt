@@ -16,5 +16,5 @@ mod fresh;
 mod lay;
 mod rotation;
 
-pub use fresh::{frame, fresh_file};
+pub use fresh::{fresh_file, push_frame};
 pub use rotation::{RotationFault, rotate};

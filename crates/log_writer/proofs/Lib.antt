@@ -1,10 +1,15 @@
 pub mod GrowthLaws
 pub mod JournalLaws
+pub mod WaitingLaws
 pub mod SyncStepLaws
 pub mod SyncLaws
 pub mod FaultLaws
-pub mod ExtendLaws
+pub mod RefusalLaws
 pub mod ReplaceLaws
-pub mod RestateLaws
+pub mod SparedLaws
+pub mod TakenLaws
+pub mod RoomLaws
+pub mod DueLaws
+pub mod PlaceLaws
 pub mod OpenLaws
 pub mod ForeignLaws

@@ -16,9 +16,9 @@ some_file (Some file) h = (file, refl)
 pub some_changed : (change : Standing → Standing) (stamp : ℕ) (m : Moment) → IsSome (m.standing stamp) → IsSome ((with_change change stamp m).standing stamp)
 some_changed change stamp m h = let (file, e) = some_file (m.standing stamp) h in rw (changed_here change stamp m file e) refl
 
--- all bytes were appended
-pub appended_all : (old new : History) (stamp : ℕ) (bytes given : List ℕ) → given ≡ bytes → new ≡ after (after_append stamp (take (length given) given)) old → new.now ≡ after_append stamp bytes old.now
-appended_all old new stamp bytes given same e =
+-- all bytes that were given were appended
+pub given_appended : (old new : History) (stamp : ℕ) (bytes given : List ℕ) → given ≡ bytes → new ≡ after (after_append stamp (take (length given) given)) old → new.now ≡ after_append stamp bytes old.now
+given_appended old new stamp bytes given same e =
     ap (λ (h : History). h.now) e ∙ ap (λ (x : List ℕ). after_append stamp x old.now) (take_all (length given) given (omega arith) ∙ same)
 
 pub stay_leaves : (old : History) (stamp : ℕ) (bytes : List ℕ) → IsSome (old.now.standing stamp) → Leaves old old (LeavesAppended old.now stamp bytes)
@@ -34,6 +34,10 @@ append_leaves {old = old} {new = new} stamp bytes given same there changes =
     (Leaves-call (LeavesAppended old.now stamp given) changes
     (λ image is. record { untouched = refl; files = image_appended stamp given old.now file image e is })
     (λ n _ image is. record { untouched = refl; files = image_prefix stamp n given old.now file image e is }))
+
+-- the same bytes, called otherwise
+pub given_leaves : {old new : History} (m : Moment) (stamp : ℕ) (bytes given : List ℕ) → given ≡ bytes → Leaves old new (LeavesAppended m stamp given) → Leaves old new (LeavesAppended m stamp bytes)
+given_leaves {old = old} {new = new} m stamp bytes given same leaves = subst (λ (x : List ℕ). Leaves old new (LeavesAppended m stamp x)) same leaves
 
 module _ (m : Moment) (stamp : ℕ) (bytes : List ℕ) (there : IsSome (m.standing stamp)) where
   pub sync_leaves : {T : Type 0} {old new : History} {result : Result T DiskError} → old.now ≡ after_append stamp bytes m →

@@ -8,8 +8,10 @@ use Rattle.fresh_files.specs.Fresh.{fresh, frame_length}
 use Rattle.log_writer.specs.Account.{Account, Outcome, Becomes, state_of, restated, compacted, synced, extended, rotated, written}
 use Rattle.fresh_files.specs.Lay.{IsAbove}
 use Rattle.fresh_files.specs.Rotation.{IsFreshStamp}
-use Rattle.log_writer.specs.Steps.{is_due, needed, Stepped, Unstepped, Restated}
+use Rattle.log_writer.specs.Waiting.{waiting_in}
+use Rattle.log_writer.specs.Steps.{is_due, extent_before, needed, Stepped, Unstepped, Restated}
 use Rattle.log_writer.specs.Log.{Log, log}
+use Rattle.log_writer.specs.declared.journal.Extent.{Extent}
 use Rattle.log_writer.specs.declared.journal.Journal.{Journal}
 use Rattle.log_writer.specs.declared.fault.First.{First}
 use Rattle.log_writer.specs.declared.fault.First.TheVariants as first
@@ -41,13 +43,13 @@ abbrev pub KeepsMemory : Bool → Option First → Type 0
 KeepsMemory rotates failed = (failed ≡ None) ⊎ ((failed ≡ Some first.Memory) × (rotates ≡ true))
 
 -- the limits stay, and the count of failures never falls
-pub record IsLater {S : Type 0} (old new : Log S) : Type 0 where
+pub record IsLater {S C : Type 0} (old new : Log S C) : Type 0 where
   pub limits : new.limits ≡ old.limits
   pub failures : old.failures ≤ new.failures
 
-module _ {S T : Type 0} where
+module _ {S C T : Type 0} where
   -- on every disk
-  abbrev pub LogAnswers : Call → Log S → Log S → Result T JournalFault → Type 0
+  abbrev pub LogAnswers : Call → Log S C → Log S C → Result T JournalFault → Type 0
   LogAnswers call old new (Ok x) = (old.failed ≡ None) × (new.failed ≡ None) × IsWithin call.needs old.limits.max_file
   LogAnswers call old new (Err (fault.AlreadyFailed first)) = (old.failed ≡ Some first) × (new ≡ old)
   LogAnswers call old new (Err (fault.TooLong n)) =
@@ -62,7 +64,7 @@ module _ {S T : Type 0} where
 
   -- On a modelled disk: a rotation's file has the fresh stamp of the clock, above all that stood; the last stamp is
   -- refused where a file has it; want of memory fails a journal only where a fresh file was made.
-  abbrev pub LogMakes : Call → (ℕ → Type 0) → Log S → Log S → Result T JournalFault → Type 0
+  abbrev pub LogMakes : Call → (ℕ → Type 0) → Log S C → Log S C → Result T JournalFault → Type 0
   LogMakes call IsMoment old new (Ok x) = MatchBool call.rotates
       (IsFreshStamp IsMoment old.history.now new.present.stamp × IsAbove new.present.stamp old.history.now)
       (new.present.stamp ≡ old.present.stamp)
@@ -74,17 +76,21 @@ module _ {S T : Type 0} where
   LogMakes call IsMoment old new (Err fault.Disk) = Unit {0}
 
 module _ {M D S C : Type 0} {m : machine.Ghosts M S C} {d : disk.Ghosts D} where
+  -- what is there without a frame that waits and is covered
+  abbrev pub behind_spared : Journal M D S C m d → C → Extent
+  behind_spared j command = extent_before m.kind j.present (waiting_in j.pending) command
+
   abbrev pub write_call : Journal M D S C m d → C → Call
   write_call j command = record {
-    rotates = is_due j.limits j.present (frame_length m.kind command);
-    needs = Some (needed m.kind j.limits j.present command);
+    rotates = is_due j.limits (behind_spared j command) (frame_length m.kind command);
+    needs = Some (needed m.kind j.limits j.present (waiting_in j.pending) command);
   }
 
   abbrev pub compact_call : Journal M D S C m d → Call
   compact_call j = rotation (length (fresh m.kind j.present.state))
 
   abbrev pub extend_call : Journal M D S C m d → C → Call
-  extend_call j command = extension (j.present.length + frame_length m.kind command)
+  extend_call j command = extension ((behind_spared j command).length + frame_length m.kind command)
 
   abbrev pub restate_call : Journal M D S C m d → C → Call
   restate_call j command = rotation (length (fresh m.kind j.present.state) + frame_length m.kind command)

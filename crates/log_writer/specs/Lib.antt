@@ -1,9 +1,12 @@
 pub mod Account
+pub mod Pending
+pub mod Waiting
 pub mod Journals
 pub mod Faults
 pub mod Steps
 pub mod Log
 pub mod Answers
+pub mod Room
 pub mod Opening
 pub use Rattle.machine_law.specs.Kind
 pub use Rattle.session_disk.specs.Causes

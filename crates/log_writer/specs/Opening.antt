@@ -1,5 +1,5 @@
 -- What each answer of `open` says of the disk before it and after it.
-use Rattle.std.specs.Prelude.{◌≡◌, ℕ, zero, ◌+◌, ◌-◌, ◌<◌, ◌≤◌, ◌^◌, List, [], length, None, Some, Result, Ok, Err}
+use Rattle.std.specs.Prelude.{◌≡◌, ℕ, zero, ◌-◌, ◌<◌, ◌≤◌, ◌^◌, [], length, None, Some, Result, Ok, Err}
 use Rattle.machine_law.specs.Kind.{Kind}
 use Rattle.machine_law.specs.declared.machine.Machine as machine
 use Rattle.session_disk.specs.declared.disk.SessionDisk as disk
@@ -11,6 +11,7 @@ use Rattle.fresh_files.specs.Fresh.{fresh}
 use Rattle.log_writer.specs.Account.{restated, opened as opened_account}
 use Rattle.fresh_files.specs.Lay.{IsAbove}
 use Rattle.fresh_files.specs.Rotation.{IsFreshStamp}
+use Rattle.log_writer.specs.Waiting.{Waiting, waiting_in}
 use Rattle.log_writer.specs.Journals.{IsReady, JournalAdvances}
 use Rattle.log_writer.specs.Log.{KeepsForeign, IsLeft}
 use Rattle.log_writer.specs.declared.journal.Journal.{Journal}
@@ -53,8 +54,9 @@ module _ {S : Type 0} where
   RefusesOpening max_file needed (Err fault.Memory) = Unit {0}
 
 -- The journal works for a state and no commands: its file alone restates the state, beside the foreign files.
-pub record Starts {S C : Type 0} (kind : Kind S C) (limits : Limits) (old new : Moment) (present : Present S) (pending : List ℕ) (s : S) : Type 0 where
-  pub advances : JournalAdvances kind old new present pending (restated kind s zero) (opened_account kind limits.max_file s) s []
+pub record Starts {S C : Type 0} (kind : Kind S C) (limits : Limits) (old new : Moment)
+    (present : Present S) (w : Waiting C) (s : S) : Type 0 where
+  pub advances : JournalAdvances kind old new present w (restated kind s zero) (opened_account kind limits.max_file s) s []
   pub rest : IsAtRest new
   pub foreign : KeepsForeign old (as_it_reads new)
 
@@ -85,7 +87,8 @@ module _ {M D S C : Type 0} {m : machine.Ghosts M S C} {d : disk.Ghosts D} where
   FitsOpening limits result s = RefusesOpening limits.max_file (length (fresh m.kind s)) (opened result)
 
   abbrev pub StartsAt : D → Limits → Result (Journal M D S C m d) (D × JournalFault) → S → Type 0
-  StartsAt disk limits (Ok j) s = Starts m.kind limits (d.history disk).now (d.history j.disk).now j.present j.pending.items s
+  StartsAt disk limits (Ok j) s = Starts m.kind limits (d.history disk).now (d.history j.disk).now j.present
+      (waiting_in j.pending) s
   StartsAt disk limits (Err refused) s = Unit {0}
 
   -- a crash at any moment of the call leaves what reads to this state, and every foreign file

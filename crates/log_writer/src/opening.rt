@@ -5,12 +5,14 @@ ghost use Rattle.session_disk.specs.Histories.{Leaves};
 ghost use Rattle.fresh_files.specs.Fresh.{fresh};
 ghost use Rattle.fresh_files.specs.Rotation.{IsMomentOf};
 ghost use Rattle.log_writer.specs.Journals.{IsReady};
+ghost use Rattle.log_writer.specs.Waiting.{nothing};
 ghost use Rattle.log_writer.specs.Log.{IsLeft};
 ghost use Rattle.log_writer.specs.Opening.{OpenAnswers, OpenMakes, RefusesOpening, Starts, AnswersOpening, MakesOpening, WhereReady, FitsOpening, StartsAt, LeavesStart, left_disk};
 
 use crate::fault::JournalFault;
 use crate::journal::{Journal, Present};
 use crate::limits::Limits;
+use crate::pending::Pending;
 use file_rotation::{Recovered, recover};
 use fresh_files::{fresh_file, rotate};
 use machine_law::Machine;
@@ -34,13 +36,16 @@ impl<M: Machine, D: SessionDisk> Journal<M, D> {
         ensures ok { WhereReady disk result (StartsAt disk limits result) }
         ensures crash { WhereReady disk result (LeavesStart disk result) }
     {
+        let Ok(pending) = Pending::new(alloc) else {
+            return Err((disk, JournalFault::Memory));
+        };
         let mut disk = disk;
         match begin::<M, D, C>(alloc, &mut disk, clock, &limits) {
             Ok(present) => Ok(Journal {
                 disk,
                 limits,
                 failed: None,
-                pending: Vec::new(alloc),
+                pending,
                 present,
                 alloc,
             }),
@@ -67,7 +72,7 @@ fn begin<M: Machine, D: SessionDisk, C: Clock>(
     ensures length { D.modelled → (s : M.State) → IsReady M.kind (D.history disk.old).now s →
         RefusesOpening limits.now.max_file (length (fresh M.kind s)) result }
     ensures ok { D.modelled → (s : M.State) → IsReady M.kind (D.history disk.old).now s →
-        IfOk result (λ p. Starts M.kind limits.now (D.history disk.old).now (D.history disk.new).now p [] s) }
+        IfOk result (λ p. Starts M.kind limits.now (D.history disk.old).now (D.history disk.new).now p nothing s) }
     ensures crash { D.modelled → (s : M.State) → IsReady M.kind (D.history disk.old).now s →
         Leaves (D.history disk.old) (D.history disk.new) (IsLeft M.kind (D.history disk.old).now s []) }
 {

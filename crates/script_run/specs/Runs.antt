@@ -23,14 +23,14 @@ use Rattle.run_words.specs.Outcome.{IsPrefix, start_line}
 use Rattle.script_run.specs.declared.halt.Halt.{Halt}
 use Rattle.script_run.specs.declared.halt.Halt.TheVariants as halt
 use Rattle.script_run.specs.Counts.{counts_of}
-use Rattle.script_run.specs.Families.{StateOf, Firsts, RunItem, kind_of}
+use Rattle.script_run.specs.Families.{CommandOf, Firsts, RunItem, StateOf, kind_of}
 use Rattle.script_run.specs.Script.{course_of, steps_of}
 use Rattle.script_run.specs.Steps.{Step, Handle, issued_to, items_of, jobs_of, said_by}
 use Rattle.script_run.specs.Verdict.{Beginnings, end_of, run_accounts}
 
 -- what the journal of each family has and knows
 abbrev pub Logs : Type 0
-Logs = (family : Family) → Log (StateOf family)
+Logs = (family : Family) → Log (StateOf family) (CommandOf family)
 
 module _ {M N D : Type 0} {m : machine.Ghosts M SessionState SessionCommand}
     {n : machine.Ghosts N ClosedState TabsCommand} {d : disk.Ghosts D} where

@@ -150,10 +150,10 @@ module _ (found : Found) (limits : Limits) (script : List ℕ) (a : IsAsked (ord
       (waits Tabs (found.entry Tabs).history (found.exit Tabs).history (firsts Tabs) (ap (λ (s : Seen). s.history) same) (ready Tabs) (issued_to Tabs (steps_of firsts script)))))
 
   -- a journal that was opened goes, by its account
-  pub opened : (family : Family) (l : Log (StateOf family)) → Opens (kind_of family) found.modelled limits (found.entry family) l → Opened found family
+  pub opened : (family : Family) (l : Log (StateOf family) (CommandOf family)) → Opens (kind_of family) found.modelled limits (found.entry family) l → Opened found family
   opened family l o modelled b at = let on = o.begins modelled b (same_options family b at) at.begins in (on.account, on.is)
 
-  pub tabs_refused : (read write : Type 0) (written : Option (List ℕ)) (why : JournalFault) (l : Log (StateOf Session)) → Opens (kind_of Session) found.modelled limits (found.entry Session) l → (found.exit Session).history ≡ l.history →
+  pub tabs_refused : (read write : Type 0) (written : Option (List ℕ)) (why : JournalFault) (l : Log (StateOf Session) (CommandOf Session)) → Opens (kind_of Session) found.modelled limits (found.entry Session) l → (found.exit Session).history ≡ l.history →
       RefusesOpening (kind_of Tabs) found.modelled limits (found.entry Tabs) (found.exit Tabs) why → IsRunOf found read write written written (status_of Tabs why)
   tabs_refused read write written why l o closed r = opening_refused Tabs read write written why r
       (λ modelled b at. tabs_stop b (opened Session l o modelled (b Session) (at Session)) why (r.stops modelled (b Tabs) (same_options Tabs (b Tabs) (at Tabs)) (at Tabs).begins []))

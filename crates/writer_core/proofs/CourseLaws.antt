@@ -1,18 +1,18 @@
 -- The course of a list of jobs, one job further: a stamp stays tied to the number of files that were made, so the last
 -- stamp is met exactly where the course says so, and what has stopped stays stopped.
-use Rattle.std.proofs.Common.{◌≡◌, ℕ, suc, ◌+◌, ◌-◌, ◌<◌, ◌≤◌, ◌^◌, max, Bool, true, false, ◌&&◌, if◌then◌else◌, ◌==◌, nat_lt, List, [], ◌∷◌, ◌++◌, length, Option, None, Some, IsSome, Result, Ok, Err, refl, sym, ap, ◌∙◌, subst, inl, inr, arith}
+use Rattle.std.proofs.Common.{◌≡◌, ℕ, suc, ◌+◌, ◌-◌, ◌<◌, ◌≤◌, ◌^◌, max, Bool, true, false, ◌&&◌, if◌then◌else◌, ◌==◌, nat_lt, List, [], ◌∷◌, ◌++◌, length, take, Option, None, Some, IsSome, Result, Ok, Err, refl, sym, ap, ◌∙◌, subst, inl, inr, arith}
 use Rattle.std.proofs.lemmas.Bool.{cases_eq}
 use Rattle.std.proofs.lemmas.Bool.Decides.{nat_tests}
 use Rattle.machine_law.specs.Kind.{Kind}
 use Rattle.session_disk.specs.Moments.{Standing, Moment, IsNewestBelow}
 use Rattle.file_rotation.specs.Stamps.{fresh_stamp}
 use Rattle.file_rotation.specs.declared.stamp.LastStamp.{LastStamp as StampRefused}
-use Rattle.fresh_files.specs.Fresh.{fresh, frame_length}
+use Rattle.fresh_files.specs.Fresh.{fresh, frames, frame_length}
 use Rattle.fresh_files.specs.Rotation.{IsFreshStamp}
-use Rattle.log_writer.specs.Account.{Account, Outcome, Becomes, Needs, state_of, length_of, within, is_due, rotated, extended, written, compacted, restated, opened}
+use Rattle.log_writer.specs.Account.{Account, Outcome, Becomes, Needs, pending_room, covers_last_of, state_of, length_of, waiting_of, spared, behind_all, within, is_due, rotated, extended, written, compacted, restated, opened}
 use Rattle.log_writer.specs.Journals.{JournalHolds}
 use Rattle.log_writer.specs.declared.journal.Present.{Present}
-use Rattle.log_writer.proofs.ExtendLaws.{within_limit}
+use Rattle.log_writer.proofs.RefusalLaws.{within_limit}
 use Rattle.writer_core.specs.Course.{Options, Course, Goes, TooLong, LastStamp, meets_last, IsTied, after_outcome, after_job, after_jobs}
 use Rattle.writer_core.specs.declared.item.Job.{Job}
 
@@ -94,13 +94,24 @@ module _ {S C : Type 0} (kind : Kind S C) where
     pub is : outcome ≡ within kind max_file needed next
     pub counted : next.made ≡ (if rotates then suc made else made)
 
+  -- no file is made or gone with a command that is covered
+  spared_made : (a : Account S C) (c : C) → (spared kind a c).made ≡ a.made
+  spared_made a c = by_cover (nat_lt 0 a.late && covers_last_of kind a.kept c)
+    where
+      by_cover : (t : Bool) → (if t then record a { kept = take (length a.kept - 1) a.kept; late = a.late - 1 } else a).made ≡ a.made
+      by_cover true = refl
+      by_cover false = refl
+
   pub limited_written : (every max_file : ℕ) (a : Account S C) (c : C) →
-      IsLimited max_file a.made (is_due kind every max_file a c) ((if is_due kind every max_file a c then length (fresh kind (state_of kind a)) else length_of kind a) + frame_length kind c) (written kind every max_file a c)
+      IsLimited max_file a.made (is_due kind every max_file a c) ((if is_due kind every max_file a c then length (fresh kind (state_of kind a)) else length_of kind (spared kind a c)) + frame_length kind c) (written kind every max_file a c)
   limited_written every max_file a c = by_due (is_due kind every max_file a c)
     where
-      by_due : (t : Bool) → IsLimited max_file a.made t ((if t then length (fresh kind (state_of kind a)) else length_of kind a) + frame_length kind c) (if t then rotated kind max_file a c else extended kind max_file a c)
+      by_due : (t : Bool) → IsLimited max_file a.made t ((if t then length (fresh kind (state_of kind a)) else length_of kind (spared kind a c)) + frame_length kind c) (if t then rotated kind max_file a c else extended kind max_file a c)
       by_due true = record { next = record { base = state_of kind a; kept = c ∷ []; late = 1; made = suc a.made }; is = refl; counted = refl }
-      by_due false = record { next = record a { kept = a.kept ++ c ∷ []; late = 1 }; is = refl; counted = refl }
+      by_due false =
+          let rest = spared kind a c in
+          let late = if nat_lt pending_room (length (frames kind (waiting_of kind rest)) + frame_length kind c) then 1 else rest.late + 1 in
+          record { next = behind_all kind rest c late; is = refl; counted = spared_made a c }
 
   pub limited_compacted : (max_file : ℕ) (a : Account S C) → IsLimited max_file a.made true (length (fresh kind (state_of kind a))) (compacted kind max_file a)
   limited_compacted max_file a = record { next = restated kind (state_of kind a) (suc a.made); is = refl; counted = refl }

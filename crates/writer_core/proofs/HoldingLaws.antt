@@ -8,6 +8,7 @@ use Rattle.session_disk.specs.Histories.{History}
 use Rattle.file_rotation.specs.Recovery.{Recovers, IsGood}
 use Rattle.fresh_files.specs.Fresh.{fresh, frames}
 use Rattle.fresh_files.specs.Lay.{IsAbove}
+use Rattle.log_writer.specs.Waiting.{Waiting}
 use Rattle.log_writer.specs.Account.{Account}
 use Rattle.log_writer.specs.Journals.{JournalHolds}
 use Rattle.log_writer.specs.declared.journal.Present.{Present}
@@ -66,13 +67,13 @@ above_entry m (Some greatest) made stamp newest tied s there = omega (arith, new
 
 module _ {S C : Type 0} (kind : Kind S C) where
   -- how many commands a journal that writes on has taken
-  pub count_written : (b : Beginning S) (now : History) (present : Present S) (pending : List ℕ) (done : List (Job C)) → length done < 2 ^ 61 → Continues kind b now present pending done → present.count ≡ length (commands done)
-  count_written b now present pending done few on = omega (arith, few, on.runs.keeps.count, length-commands done)
+  pub count_written : (b : Beginning S) (now : History) (present : Present S) (w : Waiting C) (done : List (Job C)) → length done < 2 ^ 61 → Continues kind b now present w done → present.count ≡ length (commands done)
+  count_written b now present w done few on = omega (arith, few, on.runs.keeps.count, length-commands done)
 
   -- A journal that writes on holds all commands, where its disk is at rest, nothing waits and all are told.
-  pub holds_all : (b : Beginning S) (now : History) (present : Present S) (pending : List ℕ) (done : List (Job C)) → length done < 2 ^ 62 → (on : Continues kind b now present pending done) →
+  pub holds_all : (b : Beginning S) (now : History) (present : Present S) (w : Waiting C) (done : List (Job C)) → length done < 2 ^ 62 → (on : Continues kind b now present w done) →
       IsAtRest now.now → on.account.late ≡ 0 → present.told ≡ present.count → HoldsCommands kind b now done
-  holds_all b now present pending done few on rest none_late known =
+  holds_all b now present w done few on rest none_late known =
       let runs = on.runs in
       let all : now.now.told ≡ length (commands done) = omega (arith, few, known, runs.keeps.told, runs.keeps.count, length-commands done) in
       let here = rest.files present.stamp runs.holds.file runs.holds.stands in
@@ -84,9 +85,9 @@ module _ {S C : Type 0} (kind : Kind S C) where
         made = on.made;
         stamp = present.stamp;
         above = above_entry b.entry.now b.greatest on.account.made present.stamp on.newest on.tied;
-        file = runs.holds.stands ∙ ap Some (safe_standing runs.holds.file _ (file_bytes kind now.now present pending on.account runs.holds none_late) here.0 here.1);
+        file = runs.holds.stands ∙ ap Some (safe_standing runs.holds.file _ (file_bytes kind now.now present w.bytes on.account runs.holds none_late) here.0 here.1);
         others = λ s other ne e. (runs.holds.others s other ne e).foreign;
-        foreign = foreign_stands kind b.entry now b.first (commands done) present pending on.account runs.holds on.left;
+        foreign = foreign_stands kind b.entry now b.first (commands done) present w.bytes on.account runs.holds on.left;
         reads = all_recovered kind b.first (commands done) now.now.told (as_it_reads now.now) all
-            (keeps_now kind now.now present pending on.account b.first (commands done) runs (as_it_reads now.now) (reading_is_image now.now rest));
+            (keeps_now kind now.now present w on.account b.first (commands done) runs (as_it_reads now.now) (reading_is_image now.now rest));
       }

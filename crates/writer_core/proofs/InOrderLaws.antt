@@ -22,6 +22,7 @@ use Rattle.writer_core.specs.declared.item.Item.{Item}
 use Rattle.writer_core.specs.declared.item.Job.{Job}
 use Rattle.writer_core.proofs.AnswerLaws.{answers_then, later_still, later_then}
 use Rattle.writer_core.proofs.JobLaws.{commands-append}
+use Rattle.writer_core.proofs.TellingLaws.{keeps_then, nothing_keeps}
 use Rattle.writer_core.proofs.WorkLaws.{works_then}
 
 -- jobs of one journal
@@ -32,6 +33,7 @@ module _ {M D S C : Type 0} {m : machine.Ghosts M S C} {d : disk.Ghosts D} where
     later = later_still (log old);
     answers = (works, λ small. omega arith);
     works = λ modelled b done same few on. subst (λ (jobs : List (Job C)). GoesOn b old jobs) (sym (append-nil done)) on;
+    keeps_told = nothing_keeps tt old;
   }
 
   does_one : {T : Type 0} (todo : Job C) (old new : Journal M D S C m d) (result : Result T JournalFault) → Does todo old new result → DoesAll (todo ∷ []) old new result
@@ -39,6 +41,7 @@ module _ {M D S C : Type 0} {m : machine.Ghosts M S C} {d : disk.Ghosts D} where
     later = does.later;
     answers = subst (λ (said : List C). IssueAnswers (length said) old new result) (sym (append-nil (commands_of todo))) does.answers;
     works = does.works;
+    keeps_told = does.keeps_told;
   }
 
   does_then : {T U : Type 0} (x : T) (jobs more : List (Job C)) (old mid new : Journal M D S C m d) (result : Result U JournalFault) → DoesAll jobs old mid (Ok x) → DoesAll more mid new result → DoesAll (jobs ++ more) old new result
@@ -47,6 +50,7 @@ module _ {M D S C : Type 0} {m : machine.Ghosts M S C} {d : disk.Ghosts D} where
     answers = subst (λ (n : ℕ). IssueAnswers n old new result) (sym (ap length (commands-append jobs more) ∙ length-append (commands jobs) (commands more)))
         (answers_then (length (commands jobs)) (length (commands more)) (log old) (log mid) (log new) x result one.later one.answers two.answers);
     works = works_then x jobs more old mid new result one.later.limits one.works two.works;
+    keeps_told = keeps_then x old mid new result one.keeps_told two.keeps_told;
   }
 
   through_none : (old : Journal M D S C m d) → GoesThrough [] old

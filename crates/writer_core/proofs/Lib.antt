@@ -5,5 +5,6 @@ pub mod HoldingLaws
 pub mod WorkLaws
 pub mod OpeningLaws
 pub mod AccountLaws
+pub mod TellingLaws
 pub mod InOrderLaws
 pub mod RunLaws

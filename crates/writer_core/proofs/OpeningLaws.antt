@@ -4,6 +4,7 @@ use Rattle.machine_law.specs.Kind.{Kind}
 use Rattle.session_disk.specs.Moments.{IsNewestBelow}
 use Rattle.session_disk.specs.Histories.{History, Leaves}
 use Rattle.fresh_files.specs.Fresh.{fresh}
+use Rattle.log_writer.specs.Waiting.{Waiting}
 use Rattle.log_writer.specs.Account.{Needs, restated, opened}
 use Rattle.log_writer.specs.Journals.{IsReady}
 use Rattle.log_writer.specs.Log.{Log, IsLeft}
@@ -17,6 +18,7 @@ use Rattle.writer_core.specs.Course.{Options, Course, IsTied, after_outcome, aft
 use Rattle.writer_core.specs.Course as ending
 use Rattle.writer_core.specs.Working.{Beginning, Begins, Continues, FaultCause, LeftSince, Stops, WritesOn, course}
 use Rattle.writer_core.specs.Opening.{Opens, RefusesOpening}
+use Rattle.writer_core.specs.Telling.{Runs}
 use Rattle.writer_core.specs.declared.item.Job.{Job}
 use Rattle.writer_core.proofs.WorkLaws.{left_longer}
 use Rattle.writer_core.proofs.CourseLaws.{tied_first, newest_same, goes_fresh, meets, stays_long, stays_last, opened_over, opened_fits, opened_made, first_goes, last_first}
@@ -28,9 +30,9 @@ pub stops_last : {S C : Type 0} (c : Course S C) (why : JournalFault) (stamp : �
 stops_last c why stamp e h = let here : Stops c (fault.LastStamp stamp) = subst (Stops c) e h in here
 
 -- a journal that was opened goes on from the state to which the files read
-pub opened_on : {S C : Type 0} (kind : Kind S C) (IsMoment : ℕ → Type 0) (b : Beginning S) (limits : Limits) (entry now : History) (present : Present S) (pending : List ℕ) → b.options ≡ options limits → Begins kind entry b → present.stamp < 2 ^ 63 →
-    Starts kind limits entry.now now.now present pending b.first → OpenMakes {S = S} IsMoment entry.now (Ok present) → Leaves entry now (IsLeft kind entry.now b.first []) → Continues kind b now present pending []
-opened_on kind IsMoment b limits entry now present pending same begins bound starts makes crash =
+pub opened_on : {S C : Type 0} (kind : Kind S C) (IsMoment : ℕ → Type 0) (b : Beginning S) (limits : Limits) (entry now : History) (present : Present S) (w : Waiting C) → b.options ≡ options limits → Begins kind entry b → present.stamp < 2 ^ 63 →
+    Starts kind limits entry.now now.now present w b.first → OpenMakes {S = S} IsMoment entry.now (Ok present) → Leaves entry now (IsLeft kind entry.now b.first []) → Continues kind b now present w []
+opened_on kind IsMoment b limits entry now present w same begins bound starts makes crash =
     let one : starts.advances.next.made ≡ 1 = opened_made kind limits.max_file b.first starts.advances.next starts.advances.is in
     let tied = tied_first IsMoment entry.now present.stamp b.greatest begins.newest makes.0 in
     record {
@@ -70,9 +72,9 @@ fault_of_opening S limits old new fault.Disk h = h
 fault_of_opening S limits old new fault.Memory h = tt
 
 module _ {S C : Type 0} (kind : Kind S C) (IsMoment : ℕ → Type 0) (modelled : Type 0) (limits : Limits) (entry : Seen) where
-  pub opens : (l : Log S) (exit : Seen) → l.failed ≡ None → l.limits ≡ limits → l.present.stamp < 2 ^ 63 → entry.failures ≤ l.failures → OpenAnswers limits entry exit (Ok l.present) →
+  pub opens : (l : Log S C) (exit : Seen) → l.failed ≡ None → l.limits ≡ limits → l.present.stamp < 2 ^ 63 → entry.failures ≤ l.failures → OpenAnswers limits entry exit (Ok l.present) →
       (modelled → OpenMakes IsMoment entry.history.now (Ok l.present)) →
-      (modelled → (s : S) → IsReady kind entry.history.now s → Starts kind limits entry.history.now l.history.now l.present l.pending s) →
+      (modelled → (s : S) → IsReady kind entry.history.now s → Starts kind limits entry.history.now l.history.now l.present l.waiting s) →
       (modelled → (s : S) → IsReady kind entry.history.now s → Leaves entry.history l.history (IsLeft kind entry.history.now s [])) → Opens kind modelled limits entry l
   opens l exit works limited bound later answers makes starts left = record {
     works = works;
@@ -80,7 +82,7 @@ module _ {S C : Type 0} (kind : Kind S C) (IsMoment : ℕ → Type 0) (modelled 
     none_written = answers.0;
     later = later;
     newest = λ told. let fresh = (makes told).0 in (fresh.greatest, fresh.newest);
-    begins = λ told b same begins. opened_on kind IsMoment b limits entry.history l.history l.present l.pending same begins bound (starts told b.first begins.ready) (makes told) (left told b.first begins.ready);
+    begins = λ told b same begins. opened_on kind IsMoment b limits entry.history l.history l.present l.waiting same begins bound (starts told b.first begins.ready) (makes told) (left told b.first begins.ready);
   }
 
   pub refuses : (exit : Seen) (why : JournalFault) → OpenAnswers {S = S} limits entry exit (Err why) → (modelled → OpenMakes {S = S} IsMoment entry.history.now (Err why)) →
@@ -93,12 +95,15 @@ module _ {S C : Type 0} (kind : Kind S C) (IsMoment : ℕ → Type 0) (modelled 
   }
 
 -- what follows from an opened journal
-module _ {S C : Type 0} (kind : Kind S C) (modelled : Type 0) (limits : Limits) (entry : Seen) (l : Log S) (o : Opens kind modelled limits entry l) (told : modelled) (first : S) (ready : IsReady kind entry.history.now first) where
+module _ {S C : Type 0} (kind : Kind S C) (modelled : Type 0) (limits : Limits) (entry : Seen) (l : Log S C) (o : Opens kind modelled limits entry l) (told : modelled) (first : S) (ready : IsReady kind entry.history.now first) where
   abbrev pub beginning : Beginning S
   beginning = record { options = options limits; first = first; entry = entry.history; greatest = (o.newest told).0 }
 
   pub on : WritesOn kind beginning l []
   on = o.begins told beginning refl (record { ready = ready; entry_is = refl; newest = (o.newest told).1 })
+
+  pub opened_runs : Runs kind l
+  opened_runs = record { first = first; taken = []; account = on.account; runs = on.runs }
 
   pub opened_state : l.present.state ≡ first
   opened_state = on.runs.keeps.state

@@ -8,11 +8,12 @@ use Rattle.session_disk.specs.Histories.{History, Leaves}
 use Rattle.fresh_files.specs.Fresh.{fresh, frame_length}
 use Rattle.fresh_files.specs.Lay.{IsAbove}
 use Rattle.fresh_files.specs.Rotation.{IsFreshStamp}
-use Rattle.log_writer.specs.Account.{Account, Outcome, Becomes, Needs, state_of, length_of, compacted, synced, written}
+use Rattle.log_writer.specs.Waiting.{Waiting, waiting_in}
+use Rattle.log_writer.specs.Account.{Account, Outcome, Becomes, Needs, state_of, length_of, spared, compacted, synced, written}
 use Rattle.log_writer.specs.Account as account
-use Rattle.log_writer.specs.Journals.{JournalHolds, JournalAdvances, JournalRuns}
-use Rattle.log_writer.specs.Steps.{is_due, needed}
-use Rattle.log_writer.specs.Answers.{LogAnswers, LogMakes, Answers, Makes, TellsAll, compact_call, compacts, sync_call, syncs, write_call, writes}
+use Rattle.log_writer.specs.Journals.{JournalAdvances, JournalRuns}
+use Rattle.log_writer.specs.Steps.{is_due, extent_before, needed}
+use Rattle.log_writer.specs.Answers.{LogAnswers, LogMakes, Answers, Makes, TellsAll, behind_spared, compact_call, compacts, sync_call, syncs, write_call, writes}
 use Rattle.log_writer.specs.Log.{Log, log, IsLeft, WhereRuns, LeavesGood, RestsAfter}
 use Rattle.log_writer.specs.Log as journal
 use Rattle.log_writer.specs.declared.journal.Journal.{Journal}
@@ -23,7 +24,8 @@ use Rattle.log_writer.specs.declared.journal.Present.{Present}
 use Rattle.log_writer.specs.declared.fault.JournalFault.{JournalFault}
 use Rattle.log_writer.specs.declared.fault.JournalFault.TheVariants as fault
 use Rattle.log_writer.proofs.ForeignLaws.{leaves_then, longer_left, now_left}
-use Rattle.log_writer.proofs.RestateLaws.{due_same}
+use Rattle.log_writer.proofs.DueLaws.{due_same}
+use Rattle.log_writer.proofs.RoomLaws.{length_before}
 use Rattle.writer_core.specs.Course.{Options, Goes, IsTied, from_account, after_job, after_jobs, after_outcome, options}
 use Rattle.writer_core.specs.Jobs.{commands, commands_of}
 use Rattle.writer_core.specs.Working.{Beginning, Continues, Ends, GoesOn, LeftSince, Stops, Syncs, WorkEnds, Works, course}
@@ -58,17 +60,17 @@ module _ {S C : Type 0} (kind : Kind S C) where
 
   -- one job more of a journal that writes on
 
-  module _ (b : Beginning S) (old : History) (present : Present S) (pending : List ℕ) (done : List (Job C)) (on : Continues kind b old present pending done) (todo : Job C) where
+  module _ (b : Beginning S) (old : History) (present : Present S) (w : Waiting C) (done : List (Job C)) (on : Continues kind b old present w done) (todo : Job C) where
     one_more : course kind b (done ++ todo ∷ []) ≡ from_account kind b.options b.greatest todo on.account
     one_more = course_more b done (todo ∷ []) ∙ ap (after_job kind b.options b.greatest todo) on.is
 
     left_then : (new : History) → Leaves old new (IsLeft kind old.now b.first (commands done)) → LeftSince kind b new (done ++ todo ∷ [])
     left_then new crash =
         subst (λ (q : List C). Leaves b.entry new (IsLeft kind b.entry.now b.first q)) (sym (commands_more done todo))
-        (leaves_then kind b.entry old new b.first (commands done) (commands_of todo) present pending on.account on.runs.holds on.left (longer_left kind old new b.first (commands done) (commands_of todo) crash))
+        (leaves_then kind b.entry old new b.first (commands done) (commands_of todo) present w.bytes on.account on.runs.holds on.left (longer_left kind old new b.first (commands done) (commands_of todo) crash))
 
     -- the journal writes on with the next account
-    abbrev continues : (new : History) (next : Present S) (left : List ℕ) (a : Account S C) → from_account kind b.options b.greatest todo on.account ≡ Goes a → a.made ≤ on.account.made + 1 → IsTied b.greatest a.made next.stamp →
+    abbrev continues : (new : History) (next : Present S) (left : Waiting C) (a : Account S C) → from_account kind b.options b.greatest todo on.account ≡ Goes a → a.made ≤ on.account.made + 1 → IsTied b.greatest a.made next.stamp →
         new.now.creates + on.account.made ≡ old.now.creates + a.made → JournalRuns kind new.now next left a b.first (commands done ++ commands_of todo) → Leaves old new (IsLeft kind old.now b.first (commands done)) →
         Continues kind b new next left (done ++ todo ∷ [])
     continues new next left a goes few tied made runs crash = record {
@@ -91,7 +93,7 @@ module _ {S C : Type 0} (kind : Kind S C) where
           IsTied b.greatest next.made stamp × (after_outcome kind b.options b.greatest on.account.made (Becomes next) ≡ Goes next) × (next.made ≤ on.account.made + 1)
       tied_then IsMoment next stamp true due is bound h =
           let both : IsFreshStamp IsMoment old.now stamp × IsAbove stamp old.now = rw due at h in
-          let newest = newest_own kind old.now present pending on.account on.runs.holds in
+          let newest = newest_own kind old.now present w.bytes on.account on.runs.holds in
           let value = fresh_more IsMoment old.now stamp present.stamp newest both.0 in
           let made : next.made ≡ suc on.account.made = limited_made kind limits.max_file on.account.made rotates bytes outcome limited next is ∙ ap (λ (r : Bool). if r then suc on.account.made else on.account.made) due in (
             subst (λ (n : ℕ). IsTied b.greatest n stamp) (sym made) (tied_more b.greatest on.account.made both.0.clock present.stamp stamp both.0.bound value on.tied),
@@ -106,7 +108,7 @@ module _ {S C : Type 0} (kind : Kind S C) where
             omega (arith, made),
           )
 
-      limited_goes : (IsMoment : ℕ → Type 0) (new : History) (next : Present S) (left : List ℕ) → next.stamp < 2 ^ 63 →
+      limited_goes : (IsMoment : ℕ → Type 0) (new : History) (next : Present S) (left : Waiting C) → next.stamp < 2 ^ 63 →
           MatchBool rotates (IsFreshStamp IsMoment old.now next.stamp × IsAbove next.stamp old.now) (next.stamp ≡ present.stamp) →
           JournalAdvances kind old.now new.now next left on.account outcome b.first (commands done ++ commands_of todo) →
           Leaves old new (IsLeft kind old.now b.first (commands done)) → Continues kind b new next left (done ++ todo ∷ [])
@@ -114,7 +116,7 @@ module _ {S C : Type 0} (kind : Kind S C) where
           let t = tied_then IsMoment advances.next next.stamp rotates refl advances.is bound stamps in
           continues new next left advances.next (comes ∙ ap (after_outcome kind b.options b.greatest on.account.made) advances.is ∙ t.1) t.2 t.0 advances.made advances.runs crash
 
-      stops_at : (T : Type 0) (why : JournalFault) (IsMoment : ℕ → Type 0) (log new : Log S) → length (done ++ todo ∷ []) < 2 ^ 61 → log.limits ≡ limits → log.history ≡ old → present.stamp < 2 ^ 63 →
+      stops_at : (T : Type 0) (why : JournalFault) (IsMoment : ℕ → Type 0) (log new : Log S C) → length (done ++ todo ∷ []) < 2 ^ 61 → log.limits ≡ limits → log.history ≡ old → present.stamp < 2 ^ 63 →
           LogAnswers {T = T} (record { rotates = rotates; needs = Some bytes }) log new (Err why) → LogMakes {T = T} (record { rotates = rotates; needs = Some bytes }) IsMoment log new (Err why) →
           Stops (course kind b (done ++ todo ∷ [])) why
       stops_at T (fault.TooLong n) IsMoment log new few at here bound a makes =
@@ -126,7 +128,7 @@ module _ {S C : Type 0} (kind : Kind S C) where
           let last = a.2 in
           let small : bytes ≤ limits.max_file = (let fits = a.3 in let most = ap (λ (l : Limits). l.max_file) at in omega arith) in
           let newest : IsNewestBelow old.now.standing None (Some stamp) = subst (λ (h : History). IsNewestBelow h.now.standing None (Some stamp)) here makes in
-          let own : Some stamp ≡ Some present.stamp = newest_same old.now.standing (Some stamp) (Some present.stamp) newest (newest_own kind old.now present pending on.account on.runs.holds) in
+          let own : Some stamp ≡ Some present.stamp = newest_same old.now.standing (Some stamp) (Some present.stamp) newest (newest_own kind old.now present w.bytes on.account on.runs.holds) in
           let at_last : present.stamp ≡ 2 ^ 63 - 1 = (let same_stamp : stamp ≡ present.stamp = cc in omega (arith, same_stamp, last)) in
           let made : limited.next.made ≡ suc on.account.made = limited.counted ∙ ap (λ (r : Bool). if r then suc on.account.made else on.account.made) due in
           one_more ∙ comes ∙ ap (after_outcome kind b.options b.greatest on.account.made) (limited_fits kind limits.max_file on.account.made rotates bytes outcome limited small)
@@ -137,22 +139,22 @@ module _ {S C : Type 0} (kind : Kind S C) where
 
   -- the outcomes of a command and of a compaction, by what the journal knows
 
-  module _ (limits : Limits) (m : Moment) (present : Present S) (pending : List ℕ) (a : Account S C) (h : JournalHolds kind m present pending a) where
-    write_limited : (c : C) → IsLimited kind limits.max_file a.made (is_due limits present (frame_length kind c)) (needed kind limits present c) (written kind limits.every limits.max_file a c)
-    write_limited c = subst (λ (t : Bool). IsLimited kind limits.max_file a.made t (needed kind limits present c) (written kind limits.every limits.max_file a c)) (sym due_as)
+  module _ (limits : Limits) (m : Moment) (present : Present S) (w : Waiting C) (a : Account S C) (first : S) (q : List C) (r : JournalRuns kind m present w a first q) where
+    write_limited : (c : C) → IsLimited kind limits.max_file a.made (is_due limits (extent_before kind present w c) (frame_length kind c)) (needed kind limits present w c) (written kind limits.every limits.max_file a c)
+    write_limited c = subst (λ (t : Bool). IsLimited kind limits.max_file a.made t (needed kind limits present w c) (written kind limits.every limits.max_file a c)) (sym due_as)
         (subst (λ (n : ℕ). IsLimited kind limits.max_file a.made (account.is_due kind limits.every limits.max_file a c) n (written kind limits.every limits.max_file a c)) (sym needs_as) (limited_written kind limits.every limits.max_file a c))
       where
-        due_as : is_due limits present (frame_length kind c) ≡ account.is_due kind limits.every limits.max_file a c
-        due_as = due_same kind limits m present pending a c h
+        due_as : is_due limits (extent_before kind present w c) (frame_length kind c) ≡ account.is_due kind limits.every limits.max_file a c
+        due_as = due_same kind limits m present w a first q r c
 
-        needs_as : needed kind limits present c ≡ (if account.is_due kind limits.every limits.max_file a c then length (fresh kind (state_of kind a)) else length_of kind a) + frame_length kind c
+        needs_as : needed kind limits present w c ≡ (if account.is_due kind limits.every limits.max_file a c then length (fresh kind (state_of kind a)) else length_of kind (spared kind a c)) + frame_length kind c
         needs_as =
-            ap (λ (t : Bool). (if t then length (fresh kind present.state) else present.length) + frame_length kind c) due_as
-            ∙ ap (λ (s : S). (if account.is_due kind limits.every limits.max_file a c then length (fresh kind s) else present.length) + frame_length kind c) h.state
-            ∙ ap (λ (n : ℕ). (if account.is_due kind limits.every limits.max_file a c then length (fresh kind (state_of kind a)) else n) + frame_length kind c) h.whole
+            ap (λ (t : Bool). (if t then length (fresh kind present.state) else (extent_before kind present w c).length) + frame_length kind c) due_as
+            ∙ ap (λ (s : S). (if account.is_due kind limits.every limits.max_file a c then length (fresh kind s) else (extent_before kind present w c).length) + frame_length kind c) r.holds.state
+            ∙ ap (λ (n : ℕ). (if account.is_due kind limits.every limits.max_file a c then length (fresh kind (state_of kind a)) else n) + frame_length kind c) (length_before kind m present w a first q r c)
 
     compact_limited : IsLimited kind limits.max_file a.made true (length (fresh kind present.state)) (compacted kind limits.max_file a)
-    compact_limited = subst (λ (s : S). IsLimited kind limits.max_file a.made true (length (fresh kind s)) (compacted kind limits.max_file a)) (sym h.state) (limited_compacted kind limits.max_file a)
+    compact_limited = subst (λ (s : S). IsLimited kind limits.max_file a.made true (length (fresh kind s)) (compacted kind limits.max_file a)) (sym r.holds.state) (limited_compacted kind limits.max_file a)
 
 -- a job of a journal
 
@@ -164,29 +166,29 @@ module _ {M D S C : Type 0} {m : machine.Ghosts M S C} {d : disk.Ghosts D} (old 
       Answers (record { rotates = rotates; needs = Some bytes }) old new result → Makes (record { rotates = rotates; needs = Some bytes }) IsMoment old new result →
       WhereRuns old (journal.GoesOn old new outcome (commands_of todo) result) → WhereRuns old (LeavesGood old new) → WorkEnds b new (done ++ todo ∷ []) result
   limited_ends (Ok x) IsMoment todo rotates bytes outcome b done modelled few on limited comes answers makes follows crash =
-      limited_goes m.kind b (d.history old.disk) old.present old.pending.items done on todo old.limits rotates bytes (outcome on.account) limited comes IsMoment (d.history new.disk) new.present new.pending.items new.in_range
+      limited_goes m.kind b (d.history old.disk) old.present (waiting_in old.pending) done on todo old.limits rotates bytes (outcome on.account) limited comes IsMoment (d.history new.disk) new.present (waiting_in new.pending) new.in_range
       (makes modelled) (follows modelled works b.first (commands done) on.account on.runs) (crash modelled works b.first (commands done) on.account on.runs)
   limited_ends {T} (Err why) IsMoment todo rotates bytes outcome b done modelled few on limited comes answers makes follows crash = record {
-    left = left_then m.kind b (d.history old.disk) old.present old.pending.items done on todo (d.history new.disk) (crash modelled works b.first (commands done) on.account on.runs);
-    stops = stops_at m.kind b (d.history old.disk) old.present old.pending.items done on todo old.limits rotates bytes (outcome on.account) limited comes T why IsMoment (log old) (log new) few refl refl old.in_range answers (makes modelled);
+    left = left_then m.kind b (d.history old.disk) old.present (waiting_in old.pending) done on todo (d.history new.disk) (crash modelled works b.first (commands done) on.account on.runs);
+    stops = stops_at m.kind b (d.history old.disk) old.present (waiting_in old.pending) done on todo old.limits rotates bytes (outcome on.account) limited comes T why IsMoment (log old) (log new) few refl refl old.in_range answers (makes modelled);
   }
 
   pub write_works : {T : Type 0} (result : Result T JournalFault) (IsMoment : ℕ → Type 0) (c : C) → Answers (write_call old c) old new result → Makes (write_call old c) IsMoment old new result →
       WhereRuns old (journal.GoesOn old new (writes old c) (c ∷ []) result) → WhereRuns old (LeavesGood old new) → Works (job.Write c ∷ []) old new result
   write_works result IsMoment c answers makes follows crash = λ modelled b done same few on.
-      limited_ends result IsMoment (job.Write c) (is_due old.limits old.present (frame_length m.kind c)) (needed m.kind old.limits old.present c) (writes old c) b done modelled few on
-      (write_limited m.kind old.limits (d.history old.disk).now old.present old.pending.items on.account on.runs.holds c)
+      limited_ends result IsMoment (job.Write c) (is_due old.limits (behind_spared old c) (frame_length m.kind c)) (needed m.kind old.limits old.present (waiting_in old.pending) c) (writes old c) b done modelled few on
+      (write_limited m.kind old.limits (d.history old.disk).now old.present (waiting_in old.pending) on.account b.first (commands done) on.runs c)
       (ap (λ (o : Options). after_outcome m.kind b.options b.greatest on.account.made (written m.kind o.every o.max_file on.account c)) same) answers makes follows crash
 
   pub compact_works : {T : Type 0} (result : Result T JournalFault) (IsMoment : ℕ → Type 0) → Answers (compact_call old) old new result → Makes (compact_call old) IsMoment old new result →
       WhereRuns old (journal.GoesOn old new (compacts old) [] result) → WhereRuns old (LeavesGood old new) → Works (job.Compact ∷ []) old new result
   compact_works result IsMoment answers makes follows crash = λ modelled b done same few on.
       limited_ends result IsMoment job.Compact true (length (fresh m.kind old.present.state)) (compacts old) b done modelled few on
-      (compact_limited m.kind old.limits (d.history old.disk).now old.present old.pending.items on.account on.runs.holds)
+      (compact_limited m.kind old.limits (d.history old.disk).now old.present (waiting_in old.pending) on.account b.first (commands done) on.runs)
       (ap (λ (o : Options). after_outcome m.kind b.options b.greatest on.account.made (compacted m.kind o.max_file on.account)) same) answers makes follows crash
 
   -- a sync that was refused asked for no file
-  sync_stops : (T : Type 0) (b : Beginning S) (jobs : List (Job C)) (why : JournalFault) (log new : Log S) → LogAnswers {T = T} sync_call log new (Err why) → Stops (course m.kind b jobs) why
+  sync_stops : (T : Type 0) (b : Beginning S) (jobs : List (Job C)) (why : JournalFault) (log new : Log S C) → LogAnswers {T = T} sync_call log new (Err why) → Stops (course m.kind b jobs) why
   sync_stops T b jobs (fault.TooLong n) log new a = absurd (let none = a.1 in cc)
   sync_stops T b jobs (fault.LastStamp stamp) log new a = absurd (let none = a.1 in cc)
   sync_stops T b jobs (fault.AlreadyFailed first) log new a = tt
@@ -198,20 +200,20 @@ module _ {M D S C : Type 0} {m : machine.Ghosts M S C} {d : disk.Ghosts D} (old 
   sync_goes x b done modelled on told follows crash =
       let advances = follows modelled works b.first (commands done) on.account on.runs in
       let same : advances.next ≡ synced m.kind on.account = becomes_one (synced m.kind on.account) advances.next advances.is in
-      continues m.kind b (d.history old.disk) old.present old.pending.items done on job.Sync (d.history new.disk) new.present new.pending.items (synced m.kind on.account) refl (omega arith)
+      continues m.kind b (d.history old.disk) old.present (waiting_in old.pending) done on job.Sync (d.history new.disk) new.present (waiting_in new.pending) (synced m.kind on.account) refl (omega arith)
       (subst (IsTied b.greatest on.account.made) (sym (ap (λ (p : Present S). p.stamp) told)) on.tied) (advances.made ∙ ap (λ (a : Account S C). (d.history old.disk).now.creates + a.made) same)
-      (subst (λ (a : Account S C). JournalRuns m.kind (d.history new.disk).now new.present new.pending.items a b.first (commands done ++ [])) same advances.runs) (crash modelled works b.first (commands done) on.account on.runs)
+      (subst (λ (a : Account S C). JournalRuns m.kind (d.history new.disk).now new.present (waiting_in new.pending) a b.first (commands done ++ [])) same advances.runs) (crash modelled works b.first (commands done) on.account on.runs)
 
   pub sync_works : {T : Type 0} (result : Result T JournalFault) → Answers sync_call old new result → TellsAll old new result → WhereRuns old (journal.GoesOn old new (syncs old) [] result) → WhereRuns old (LeavesGood old new) → Works (job.Sync ∷ []) old new result
   sync_works (Ok x) answers told follows crash = λ modelled b done same few on. sync_goes x b done modelled on told follows crash
   sync_works {T} (Err why) answers told follows crash = λ modelled b done same few on. record {
-    left = left_then m.kind b (d.history old.disk) old.present old.pending.items done on job.Sync (d.history new.disk) (crash modelled works b.first (commands done) on.account on.runs);
+    left = left_then m.kind b (d.history old.disk) old.present (waiting_in old.pending) done on job.Sync (d.history new.disk) (crash modelled works b.first (commands done) on.account on.runs);
     stops = sync_stops T b (done ++ job.Sync ∷ []) why (log old) (log new) answers;
   }
 
   pub sync_holds : {T : Type 0} (result : Result T JournalFault) → TellsAll old new result → WhereRuns old (journal.GoesOn old new (syncs old) [] result) → WhereRuns old (RestsAfter new result) → WhereRuns old (LeavesGood old new) → Syncs job.Sync old new result
   sync_holds (Ok x) told follows rests crash = λ modelled b done few on.
-      holds_all m.kind b (d.history new.disk) new.present new.pending.items (done ++ job.Sync ∷ []) (omega (arith, few, length-append done (job.Sync ∷ []))) (sync_goes x b done modelled on told follows crash)
+      holds_all m.kind b (d.history new.disk) new.present (waiting_in new.pending) (done ++ job.Sync ∷ []) (omega (arith, few, length-append done (job.Sync ∷ []))) (sync_goes x b done modelled on told follows crash)
       (rests modelled works b.first (commands done) on.account on.runs) refl (ap (λ (p : Present S). p.told) told ∙ sym (ap (λ (p : Present S). p.count) told))
   sync_holds (Err why) told follows rests crash = λ modelled b done few on. tt
 
@@ -219,9 +221,9 @@ module _ {M D S C : Type 0} {m : machine.Ghosts M S C} {d : disk.Ghosts D} where
   -- no job
   pub nothing_works : {T : Type 0} (x : T) (old : Journal M D S C m d) → Works (job.Nothing ∷ []) old old (Ok x)
   nothing_works x old = λ modelled b done same few on.
-      continues m.kind b (d.history old.disk) old.present old.pending.items done on job.Nothing (d.history old.disk) old.present old.pending.items on.account refl (omega arith) on.tied refl
-      (subst (λ (q : List C). JournalRuns m.kind (d.history old.disk).now old.present old.pending.items on.account b.first q) (sym (append-nil (commands done))) on.runs)
-      (now_left m.kind (d.history old.disk) old.present old.pending.items on.account b.first (commands done) on.runs)
+      continues m.kind b (d.history old.disk) old.present (waiting_in old.pending) done on job.Nothing (d.history old.disk) old.present (waiting_in old.pending) on.account refl (omega arith) on.tied refl
+      (subst (λ (q : List C). JournalRuns m.kind (d.history old.disk).now old.present (waiting_in old.pending) on.account b.first q) (sym (append-nil (commands done))) on.runs)
+      (now_left m.kind (d.history old.disk) old.present (waiting_in old.pending) on.account b.first (commands done) on.runs)
 
   -- jobs one after another are done as one list
   pub works_then : {T U : Type 0} (x : T) (more later : List (Job C)) (old mid new : Journal M D S C m d) (result : Result U JournalFault) → mid.limits ≡ old.limits → Works more old mid (Ok x) → Works later mid new result → Works (more ++ later) old new result

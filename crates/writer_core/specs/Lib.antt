@@ -1,6 +1,7 @@
 pub mod Jobs
 pub mod Course
 pub mod Working
+pub mod Telling
 pub mod Opening
 pub mod Accounts
 pub mod Handling

@@ -29,7 +29,7 @@ module _ {S C : Type 0} (kind : Kind S C) (modelled : Type 0) (limits : Limits) 
   WhereBegun P = modelled → (b : Beginning S) → b.options ≡ options limits → Begins kind entry.history b → P b
 
   -- The journal has no command yet. On a modelled disk it writes on.
-  pub record Opens (l : Log S) : Type 0 where
+  pub record Opens (l : Log S C) : Type 0 where
     pub works : l.failed ≡ None
     pub limited : l.limits ≡ limits
     pub none_written : l.present.count ≡ 0

@@ -11,6 +11,7 @@ use Rattle.session_disk.specs.Histories.{History, Leaves}
 use Rattle.file_rotation.specs.Foreign.{is_foreign}
 use Rattle.file_rotation.specs.Recovery.{Recovers}
 use Rattle.fresh_files.specs.Fresh.{fresh, frames}
+use Rattle.log_writer.specs.Waiting.{Waiting}
 use Rattle.log_writer.specs.Account.{Account}
 use Rattle.log_writer.specs.Journals.{JournalRuns, IsReady}
 use Rattle.log_writer.specs.Log.{Log, log, KeepsForeign, IsLeft}
@@ -58,7 +59,7 @@ module _ {S C : Type 0} (kind : Kind S C) where
   LeftSince b now jobs = Leaves b.entry now (IsLeft kind b.entry.now b.first (commands jobs))
 
   -- the journal writes on, as the account of these jobs says
-  pub record Continues (b : Beginning S) (now : History) (present : Present S) (pending : List ℕ) (jobs : List (Job C))
+  pub record Continues (b : Beginning S) (now : History) (present : Present S) (w : Waiting C) (jobs : List (Job C))
       : Type 0 where
     pub newest : IsNewestBelow b.entry.now.standing None b.greatest
     pub account : Account S C
@@ -66,11 +67,11 @@ module _ {S C : Type 0} (kind : Kind S C) where
     pub made : now.now.creates ≡ b.entry.now.creates + account.made
     pub few : account.made ≤ length jobs + 1
     pub tied : IsTied b.greatest account.made present.stamp
-    pub runs : JournalRuns kind now.now present pending account b.first (commands jobs)
+    pub runs : JournalRuns kind now.now present w account b.first (commands jobs)
     pub left : LeftSince b now jobs
 
-  abbrev pub WritesOn : Beginning S → Log S → List (Job C) → Type 0
-  WritesOn b l jobs = Continues b l.history l.present l.pending jobs
+  abbrev pub WritesOn : Beginning S → Log S C → List (Job C) → Type 0
+  WritesOn b l jobs = Continues b l.history l.present l.waiting jobs
 
   -- jobs were stopped, these being all that were to be done
   pub record Ends (b : Beginning S) (now : History) (jobs : List (Job C)) (why : JournalFault) : Type 0 where
@@ -104,8 +105,8 @@ FaultCause max_file before after fault.Disk = Rose before after
 FaultCause max_file before after fault.Memory = Unit {0}
 
 -- On every disk: what jobs that write n commands make of a journal that hasn't failed.
-module _ {S T : Type 0} where
-  abbrev pub LogIssues : ℕ → Log S → Log S → Result T JournalFault → Type 0
+module _ {S C T : Type 0} where
+  abbrev pub LogIssues : ℕ → Log S C → Log S C → Result T JournalFault → Type 0
   LogIssues n old new (Ok x) =
       (new.failed ≡ None) × (old.present.count + n < 2 ^ 64 → new.present.count ≡ old.present.count + n)
   LogIssues n old new (Err why) = FaultCause old.limits.max_file old.failures new.failures why

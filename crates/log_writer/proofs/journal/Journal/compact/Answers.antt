@@ -1,7 +1,7 @@
 use Rattle.std.proofs.Common.{length, refl, sym, ap, arith}
 use Rattle.fresh_files.specs.Fresh.{fresh}
-use Rattle.log_writer.proofs.ExtendLaws.{within_limit, follows_refused, remains_same}
-use Rattle.log_writer.proofs.RestateLaws.{follows_as}
+use Rattle.log_writer.proofs.RefusalLaws.{within_limit, follows_refused, remains_same}
+use Rattle.log_writer.proofs.RefusalLaws.{follows_as}
 use Rattle.log_writer.proofs.ForeignLaws.{follows_stands, now_left}
 use Rattle.log_writer.proofs.journal.Journal.compact.Goals as goal
 
