@@ -1,5 +1,5 @@
-//! What cases of disks write as text: numbers, bytes and session files, failures and crashes, the images of a disk, and
-//! what files read to.
+//! What cases of disks write as text: numbers, bytes, session files and commands, failures and crashes, the images of a
+//! disk, and what files read to.
 //!
 //! ```
 //! let first = read_file(alloc, "add 7 session 3: tab 1 2, marker")?;
@@ -12,6 +12,7 @@
 #![tactic(auto)]
 
 mod bytes;
+mod commands;
 mod entries;
 mod image_list;
 mod number_words;
@@ -22,10 +23,11 @@ mod states;
 mod transcript;
 
 pub use bytes::{plain_bytes, read_bytes, write_bytes};
+pub use commands::read_command;
 pub use entries::closed_text;
 pub use image_list::{LONGEST, images};
-pub use number_words::{number, numbers, two_ids, two_numbers};
+pub use number_words::{number, numbers, two_numbers};
 pub use plans::{read_failures, read_keeps};
 pub use safe_files::{SafeFile, left, read_file, read_files, resting, stands};
-pub use states::{described, is_among, state_of, state_text, tab_command};
+pub use states::{described, is_among, state_of, state_text};
 pub use transcript::put_answer;

@@ -43,7 +43,8 @@ fn header(alloc: Global, version: u64) -> Result<Vec<u8>, CaseFault> {
     Ok(Vec::from_slice(alloc, &header)?)
 }
 
-fn put_part(alloc: Global, part: &str, bytes: &mut Vec<u8>) -> Result<(), CaseFault> {
+/// Puts the bytes of a part.
+pub(crate) fn put_part(alloc: Global, part: &str, bytes: &mut Vec<u8>) -> Result<(), CaseFault> {
     let (kind, rest) = first_word(part);
     match kind {
         "tab" => put_ints(0, read_ints(alloc, rest)?.as_slice(), bytes),

@@ -1,11 +1,8 @@
 //! States of a session as text: the windows by id, and each tab with its window.
-ghost use Rattle.compactor.specs.session.SessionKind.{IsCommand};
-ghost use Rattle.session_commands.specs.Table.{IsSound};
 
 use case_files::CaseFault;
 use compactor::SessionMachine;
 use file_rotation::{RotateFault, recover};
-use session_commands::SessionCommand;
 use session_disk::MemoryDisk;
 use std::alloc::{AllocError, Global};
 use window_state::{SessionState, Tab};
@@ -66,16 +63,6 @@ pub fn state_of(alloc: Global, disk: &mut MemoryDisk) -> Result<SessionState, Ca
 pub fn state_text(alloc: Global, disk: &mut MemoryDisk) -> Result<String, CaseFault> {
     let state = state_of(alloc, disk)?;
     Ok(described(alloc, &state)?)
-}
-
-/// The command that puts a tab into a window.
-pub fn tab_command(window: i32, tab: i32) -> SessionCommand
-    ensures sound { IsSound result }
-    ensures command { IsCommand result }
-{
-    let command = SessionCommand::TabWindow { window, tab };
-    command.known_in_range();
-    command
 }
 
 /// Whether a text is that of a prefix of at least and at most so many commands. The texts are those after each command.

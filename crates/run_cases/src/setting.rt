@@ -30,14 +30,15 @@ impl Setting {
         }
     }
 
-    /// The same script with empty lines in the place of those that say `compact`, and no failures.
+    /// The same script with empty lines in the place of those that say `compact`, and no failures. A sync stands behind
+    /// each line, so that no command is covered by that of the next one.
     pub(crate) fn uncompacted(&self, alloc: Global) -> Result<Setting, AllocError> {
         let mut setting = Setting::new(alloc, self.clock);
         for line in self.script.split(|byte| *byte == b'\n') {
             if line != b"compact".as_slice() {
                 setting.script.extend_from_slice(line)?;
             }
-            setting.script.push(b'\n')?;
+            setting.script.extend_from_slice(b"\nsync\n")?;
         }
         Ok(setting)
     }

@@ -1,4 +1,4 @@
-//! The step `cuts`: the steps before it, which open a journal and write tabs, are made over and over. Each call of
+//! The step `cuts`: the steps before it, which open a journal and write commands, are made over and over. Each call of
 //! the disk fails in turn, once and for good, after each part of its work; failing for good is a crash at that
 //! moment. Every image of the disk that is left has to read to the state after a prefix of the commands with every
 //! told one in it.

@@ -1,15 +1,17 @@
 //! Steps on a journal:
 //!
 //! - `open`, with `every=N`, `max_file=N` and `clock=N` where these aren't 100, 1000 and 100: a journal takes the disk
-//! - `tab W T`: writes the command that puts tab T into window W
+//! - `tab W T`, `page T I`, `page T I N`: writes the command that puts a tab into a window or a page into a tab, as
+//!   `disk_cases` has it
 //! - `sync`, `compact`
 //! - `told`; `journal`, all that it knows of its file; `state`
 //! - `close`: gives the disk back
+ghost use Rattle.compactor.specs.session.SessionKind.{IsCommand};
 
 use crate::answers::{said_first, said_number, said_of_journal};
 use case_files::CaseFault;
 use compactor::SessionMachine;
-use disk_cases::{described, number, tab_command, two_ids};
+use disk_cases::{described, number, read_command};
 use log_writer::{Journal, JournalFault, Limits, Refused};
 use session_commands::SessionCommand;
 use session_disk::{FixedClock, MemoryDisk};
@@ -104,8 +106,8 @@ pub(crate) fn answer(
         "told" => said_number(alloc, Some(journal.told()))?,
         "journal" => account(alloc, journal)?,
         "state" => described(alloc, journal.state())?,
-        _ => match line.strip_prefix("tab ") {
-            Some(ids) => write(alloc, journal, moment, ids)?,
+        _ => match read_command(alloc, line)? {
+            Some(command) => write(alloc, journal, moment, command)?,
             None => return Ok(None),
         },
     }))
@@ -120,22 +122,24 @@ fn write(
     alloc: Global,
     journal: &mut SessionJournal,
     moment: u64,
-    ids: &str,
-) -> Result<String, CaseFault> {
-    let (window, tab) = two_ids(ids)?;
-    match written(journal, moment, window, tab) {
-        Ok(()) => Ok(String::from_str(alloc, "ok")?),
-        Err(refused) => Ok(said_refused(alloc, refused.fault, &refused.command)?),
+    command: SessionCommand,
+) -> Result<String, AllocError>
+    requires { IsCommand command }
+{
+    match written(journal, moment, command) {
+        Ok(()) => String::from_str(alloc, "ok"),
+        Err(refused) => said_refused(alloc, refused.fault, &refused.command),
     }
 }
 
 fn written(
     journal: &mut SessionJournal,
     moment: u64,
-    window: i32,
-    tab: i32,
-) -> Result<(), Refused<SessionCommand>> {
-    journal.write(&mut clock_at(moment), tab_command(window, tab))
+    command: SessionCommand,
+) -> Result<(), Refused<SessionCommand>>
+    requires { IsCommand command }
+{
+    journal.write(&mut clock_at(moment), command)
 }
 
 // A refusal says which command came back.

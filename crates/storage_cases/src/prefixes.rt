@@ -1,9 +1,9 @@
 //! The states after each prefix of the commands of a case, as text.
 
 use case_files::CaseFault;
-use disk_cases::{SafeFile, described, resting, state_of, tab_command, two_ids};
+use disk_cases::{SafeFile, described, read_command, resting, state_of};
 use replay_machine::apply;
-use std::alloc::{AllocError, Global};
+use std::alloc::Global;
 use window_state::SessionState;
 
 /// The state to which the files read, then the state after each command of the steps.
@@ -17,15 +17,18 @@ pub(crate) fn prefixes(
     let mut texts = Vec::new(alloc);
     texts.push(described(alloc, &state)?)?;
     for step in steps.lines() {
-        if let Some(ids) = step.strip_prefix("tab ") {
-            put_tab(&mut state, two_ids(ids)?)?;
+        if has_applied(alloc, &mut state, step)? {
             texts.push(described(alloc, &state)?)?;
         }
     }
     Ok(texts)
 }
 
-fn put_tab(state: &mut SessionState, ids: (i32, i32)) -> Result<(), AllocError> {
-    let (window, tab) = ids;
-    apply(state, &tab_command(window, tab))
+// Applies the command of a step, and says whether it has one.
+fn has_applied(alloc: Global, state: &mut SessionState, step: &str) -> Result<bool, CaseFault> {
+    let Some(command) = read_command(alloc, step)? else {
+        return Ok(false);
+    };
+    apply(state, &command)?;
+    Ok(true)
 }
