@@ -81,7 +81,8 @@ newest_own kind m present pending a h = record {
 -- the next account
 
 module _ {S C : Type 0} (kind : Kind S C) where
-  within_is : (max_file needed : ℕ) (next known : Account S C) (t : Bool) → (if t then Needs needed else Becomes known) ≡ Becomes next → next ≡ known
+  -- what an outcome within a limit becomes
+  pub within_is : (max_file needed : ℕ) (next known : Account S C) (t : Bool) → (if t then Needs needed else Becomes known) ≡ Becomes next → next ≡ known
   within_is max_file needed next known true e = absurd cc
   within_is max_file needed next known false e = cc
 

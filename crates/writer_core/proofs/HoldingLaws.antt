@@ -8,6 +8,7 @@ use Rattle.session_disk.specs.Histories.{History}
 use Rattle.file_rotation.specs.Recovery.{Recovers, IsGood}
 use Rattle.fresh_files.specs.Fresh.{fresh, frames}
 use Rattle.fresh_files.specs.Lay.{IsAbove}
+use Rattle.fresh_files.proofs.CommandLaws.{OfMachine}
 use Rattle.log_writer.specs.Waiting.{Waiting}
 use Rattle.log_writer.specs.Account.{Account}
 use Rattle.log_writer.specs.Journals.{JournalHolds}
@@ -18,6 +19,7 @@ use Rattle.writer_core.specs.Course.{IsTied}
 use Rattle.writer_core.specs.Jobs.{commands}
 use Rattle.writer_core.specs.Working.{Beginning, Continues, HoldsCommands}
 use Rattle.writer_core.specs.declared.item.Job.{Job}
+use Rattle.writer_core.proofs.CreationLaws.{creations_few}
 use Rattle.writer_core.proofs.JobLaws.{length-commands}
 
 -- the files of a disk as they read are one of its images
@@ -71,9 +73,9 @@ module _ {S C : Type 0} (kind : Kind S C) where
   count_written b now present w done few on = omega (arith, few, on.runs.keeps.count, length-commands done)
 
   -- A journal that writes on holds all commands, where its disk is at rest, nothing waits and all are told.
-  pub holds_all : (b : Beginning S) (now : History) (present : Present S) (w : Waiting C) (done : List (Job C)) → length done < 2 ^ 62 → (on : Continues kind b now present w done) →
+  pub holds_all : OfMachine kind → (b : Beginning S) (now : History) (present : Present S) (w : Waiting C) (done : List (Job C)) → length done < 2 ^ 62 → (on : Continues kind b now present w done) →
       IsAtRest now.now → on.account.late ≡ 0 → present.told ≡ present.count → HoldsCommands kind b now done
-  holds_all b now present w done few on rest none_late known =
+  holds_all of_machine b now present w done few on rest none_late known =
       let runs = on.runs in
       let all : now.now.told ≡ length (commands done) = omega (arith, few, known, runs.keeps.told, runs.keeps.count, length-commands done) in
       let here = rest.files present.stamp runs.holds.file runs.holds.stands in
@@ -83,6 +85,7 @@ module _ {S C : Type 0} (kind : Kind S C) where
         account = on.account;
         is = on.is;
         made = on.made;
+        few = creations_few kind of_machine b done on.account on.some on.is;
         stamp = present.stamp;
         above = above_entry b.entry.now b.greatest on.account.made present.stamp on.newest on.tied;
         file = runs.holds.stands ∙ ap Some (safe_standing runs.holds.file _ (file_bytes kind now.now present w.bytes on.account runs.holds none_late) here.0 here.1);

@@ -1,5 +1,6 @@
 pub mod JobLaws
 pub mod CourseLaws
+pub mod CreationLaws
 pub mod AnswerLaws
 pub mod HoldingLaws
 pub mod WorkLaws

@@ -36,6 +36,7 @@ opened_on kind IsMoment b limits entry now present w same begins bound starts ma
     let one : starts.advances.next.made ≡ 1 = opened_made kind limits.max_file b.first starts.advances.next starts.advances.is in
     let tied = tied_first IsMoment entry.now present.stamp b.greatest begins.newest makes.0 in
     record {
+      some = omega (arith, limits.some, ap (λ (o : Options). o.every) same);
       newest = subst (λ (h : History). IsNewestBelow h.now.standing None b.greatest) (sym begins.entry_is) begins.newest;
       account = starts.advances.next;
       is = ap (λ (o : Options). after_outcome kind b.options b.greatest 0 (opened kind o.max_file b.first)) same ∙ ap (after_outcome kind b.options b.greatest 0) starts.advances.is

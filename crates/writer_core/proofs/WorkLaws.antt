@@ -8,6 +8,7 @@ use Rattle.session_disk.specs.Histories.{History, Leaves}
 use Rattle.fresh_files.specs.Fresh.{fresh, frame_length}
 use Rattle.fresh_files.specs.Lay.{IsAbove}
 use Rattle.fresh_files.specs.Rotation.{IsFreshStamp}
+use Rattle.fresh_files.proofs.CommandLaws.{machine_of}
 use Rattle.log_writer.specs.Waiting.{Waiting, waiting_in}
 use Rattle.log_writer.specs.Account.{Account, Outcome, Becomes, Needs, state_of, length_of, spared, compacted, synced, written}
 use Rattle.log_writer.specs.Account as account
@@ -74,6 +75,7 @@ module _ {S C : Type 0} (kind : Kind S C) where
         new.now.creates + on.account.made ≡ old.now.creates + a.made → JournalRuns kind new.now next left a b.first (commands done ++ commands_of todo) → Leaves old new (IsLeft kind old.now b.first (commands done)) →
         Continues kind b new next left (done ++ todo ∷ [])
     continues new next left a goes few tied made runs crash = record {
+      some = on.some;
       newest = on.newest;
       account = a;
       is = one_more ∙ goes;
@@ -213,7 +215,7 @@ module _ {M D S C : Type 0} {m : machine.Ghosts M S C} {d : disk.Ghosts D} (old 
 
   pub sync_holds : {T : Type 0} (result : Result T JournalFault) → TellsAll old new result → WhereRuns old (journal.GoesOn old new (syncs old) [] result) → WhereRuns old (RestsAfter new result) → WhereRuns old (LeavesGood old new) → Syncs job.Sync old new result
   sync_holds (Ok x) told follows rests crash = λ modelled b done few on.
-      holds_all m.kind b (d.history new.disk) new.present (waiting_in new.pending) (done ++ job.Sync ∷ []) (omega (arith, few, length-append done (job.Sync ∷ []))) (sync_goes x b done modelled on told follows crash)
+      holds_all m.kind (machine_of m.kind m.lawful) b (d.history new.disk) new.present (waiting_in new.pending) (done ++ job.Sync ∷ []) (omega (arith, few, length-append done (job.Sync ∷ []))) (sync_goes x b done modelled on told follows crash)
       (rests modelled works b.first (commands done) on.account on.runs) refl (ap (λ (p : Present S). p.told) told ∙ sym (ap (λ (p : Present S). p.count) told))
   sync_holds (Err why) told follows rests crash = λ modelled b done few on. tt
 

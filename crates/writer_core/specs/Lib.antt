@@ -1,5 +1,6 @@
 pub mod Jobs
 pub mod Course
+pub mod Creations
 pub mod Working
 pub mod Telling
 pub mod Opening

@@ -1,5 +1,5 @@
 -- A journal of a run while jobs are done, and what stands when it is synced.
-use Rattle.std.specs.Prelude.{◌≡◌, ◌≢◌, ℕ, ◌+◌, ◌-◌, ◌<◌, ◌≤◌, ◌^◌, true, List, [], ◌∷◌, ◌++◌, length}
+use Rattle.std.specs.Prelude.{◌≡◌, ◌≢◌, ℕ, ◌+◌, ◌-◌, ◌/◌, ◌<◌, ◌≤◌, ◌^◌, true, List, [], ◌∷◌, ◌++◌, length}
 use Rattle.std.specs.Prelude.{Option, None, Some, IsSome, Result, Ok, Err, OnOk}
 use Rattle.machine_law.specs.Kind.{Kind, fold}
 use Rattle.machine_law.specs.declared.machine.Machine as machine
@@ -20,6 +20,7 @@ use Rattle.log_writer.specs.declared.journal.Present.{Present}
 use Rattle.log_writer.specs.declared.fault.JournalFault.{JournalFault}
 use Rattle.log_writer.specs.declared.fault.JournalFault.TheVariants as fault
 use Rattle.writer_core.specs.Course.{Options, Course, Goes, TooLong, LastStamp, IsTied, course_of, options}
+use Rattle.writer_core.specs.Creations.{AllFit, compactions}
 use Rattle.writer_core.specs.Jobs.{commands}
 use Rattle.writer_core.specs.declared.item.Job.{Job}
 use Rattle.writer_core.specs.declared.item.Job.TheVariants as job
@@ -61,6 +62,7 @@ module _ {S C : Type 0} (kind : Kind S C) where
   -- the journal writes on, as the account of these jobs says
   pub record Continues (b : Beginning S) (now : History) (present : Present S) (w : Waiting C) (jobs : List (Job C))
       : Type 0 where
+    pub some : 1 ≤ b.options.every
     pub newest : IsNewestBelow b.entry.now.standing None b.greatest
     pub account : Account S C
     pub is : course b jobs ≡ Goes account
@@ -87,6 +89,10 @@ module _ {S C : Type 0} (kind : Kind S C) where
     pub account : Account S C
     pub is : course b jobs ≡ Goes account
     pub made : now.now.creates ≡ b.entry.now.creates + account.made
+    -- Where all commands fit into one file, one is made at the opening, one at each compaction, and at most one more for
+    -- each `every` of commands that is full.
+    pub few : AllFit kind b.first (commands jobs) b.options.max_file →
+        account.made ≤ 1 + compactions jobs + length (commands jobs) / b.options.every
     pub stamp : ℕ
     pub above : (s : ℕ) → IsSome (b.entry.now.standing s) → s < stamp
     pub file : now.now.standing stamp ≡ Some (safe_file (fresh kind account.base ++ frames kind account.kept))
