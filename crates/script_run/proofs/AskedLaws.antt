@@ -1,7 +1,8 @@
 -- Commands of the session, those of the tabs, and further steps behind them: all are done, or the run halts among them.
-use Rattle.std.proofs.Common.{◌≡◌, List, ◌++◌, map, append_assoc, subst}
+use Rattle.std.proofs.Common.{◌≡◌, Bool, true, false, List, [], ◌++◌, map, append_assoc, refl, subst}
 use Rattle.machine_law.specs.declared.machine.Machine as machine
 use Rattle.session_disk.specs.declared.disk.SessionDisk as disk
+use Rattle.session_disk.specs.declared.family.Family.TheVariants.{Tabs}
 use Rattle.session_commands.specs.declared.command.SessionCommand.{SessionCommand}
 use Rattle.tab_restore_commands.specs.declared.command.TabsCommand.{TabsCommand}
 use Rattle.window_state.specs.States.{State as SessionState}
@@ -9,14 +10,24 @@ use Rattle.closed_entries.specs.States.{State as ClosedState}
 use Rattle.writer_core.specs.InOrder.{AllDone, StopsAt}
 use Rattle.writer_core.specs.declared.handling.Stopped.{Stopped}
 use Rattle.writer_core.specs.declared.item.Item.TheVariants as item
+use Rattle.script_run.specs.declared.asking.Work.{Work}
 use Rattle.script_run.specs.declared.halt.Halt.{Halt}
 use Rattle.script_run.specs.declared.halt.Halt.TheVariants as halt
-use Rattle.script_run.specs.Acting.{command_steps}
+use Rattle.script_run.specs.Acting.{command_steps, compaction_steps, work_steps}
 use Rattle.script_run.specs.Doing.{Sunk, RunWriters, StepsDone, StepsHalted}
 use Rattle.script_run.specs.Families.{RunItem}
-use Rattle.script_run.specs.Steps.{Step, Handle}
+use Rattle.script_run.specs.Steps.{Step, Handle, issued_to}
 use Rattle.script_run.proofs.DoingLaws.{done-then, halted-then, halted-longer}
 use Rattle.script_run.proofs.HandledLaws.{items-done, items-stopped, steps-of}
+use Rattle.script_run.proofs.OutcomeSteps.{tabs-commands}
+
+compaction-none : (compacts : Bool) → issued_to Tabs (compaction_steps compacts) ≡ []
+compaction-none true = refl
+compaction-none false = refl
+
+pub work-tabs : (work : Work) → issued_to Tabs (work_steps work) ≡ work.tabs.items
+work-tabs work = tabs-commands work.session.items work.tabs.items (compaction_steps work.compacts)
+    (compaction-none work.compacts)
 
 abbrev pub steps_of_session : List SessionCommand → List Step
 steps_of_session commands = map (λ command. Handle (item.Session command)) commands

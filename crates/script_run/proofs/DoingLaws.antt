@@ -20,13 +20,10 @@ use Rattle.script_run.specs.Doing.{Sunk, Count, said_from, SaysDone, HaltCause, 
 use Rattle.script_run.specs.Doing.{HaltsBehind, StepsHalted}
 use Rattle.script_run.specs.Runs.{Logs, logs}
 use Rattle.script_run.specs.Steps.{Step, issued_to, items_of, said_behind}
+use Rattle.script_run.proofs.FamilyLaws.{each}
 use Rattle.script_run.proofs.SayingLaws.{prefix-behind, prefix-of-first, writes-then, writes-weaken}
 use Rattle.script_run.proofs.StepLaws.{items-append, jobs-append, counted-append, said-append}
-
--- a fact of each family
-pub each : (P : Family → Type 0) → P Session → P Tabs → (family : Family) → P family
-each P session tabs Session = session
-each P session tabs Tabs = tabs
+use Rattle.script_run.proofs.SyncLineLaws.{halt-tells-then, tells-then}
 
 -- what was said behind done steps, and before further ones
 pub says-longer : (why : Halt) (old : Logs) (done left more : List Step) (said : List ℕ)
@@ -109,6 +106,10 @@ module _ {M N D : Type 0} {m : machine.Ghosts M SessionState SessionCommand}
         (λ said. said ≡ said_from (logs mid) more) (λ said. said ≡ said_from (logs old) (first ++ more))
         (λ said e. ap (λ x. said_from (logs old) first ++ x) e ∙ sym (said-then first old mid one.all here more))
         (one.says here) (two.says (count-more first old mid one.all more small));
+    tells = λ modelled run.
+        let here = one.tells modelled run in
+        tells-then m.kind n.kind (logs old) (logs mid) (logs new) before.written between.written after.written here
+        (two.tells modelled here.run);
   }
 
   stops-behind : (first done left : List Step) (stopped : Stopped) (old mid new : RunWriters M N D m n d)
@@ -153,6 +154,10 @@ module _ {M N D : Type 0} {m : machine.Ghosts M SessionState SessionCommand}
         (λ said h. says-then why (logs old) (logs mid) first two.done two.left said
         (said-then first old mid one.all here) h)
         (one.says here) (two.says (count-more first old mid one.all more small));
+    tells = λ modelled run.
+        let here = one.tells modelled run in
+        halt-tells-then m.kind n.kind (logs old) (logs mid) (logs new) before.written between.written after.written
+        here why (two.tells modelled here.run);
   }
 
   -- what halts some steps halts them and more
@@ -182,4 +187,5 @@ module _ {M N D : Type 0} {m : machine.Ghosts M SessionState SessionCommand}
         writes-weaken before.written after.written (SaysDone why (logs old) h.done h.left)
         (SaysDone why (logs old) h.done (h.left ++ more))
         (says-longer why (logs old) h.done h.left more) (h.says fits);
+    tells = h.tells;
   }

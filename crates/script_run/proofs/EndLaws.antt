@@ -24,7 +24,7 @@ use Rattle.script_run.specs.Runs.{Writes, logs, said_behind_start, states_of}
 use Rattle.script_run.specs.Script.{course_of, steps_of}
 use Rattle.script_run.specs.Starting.{Starts}
 use Rattle.script_run.specs.Steps.{Step, issued_to, items_of, jobs_of, said_behind, said_by}
-use Rattle.script_run.proofs.DoingLaws.{each}
+use Rattle.script_run.proofs.FamilyLaws.{each}
 use Rattle.script_run.proofs.FewLaws.{few-issued}
 use Rattle.script_run.proofs.RunLaws.{all-go, cut-at, halted-cause, halted-ends}
 use Rattle.script_run.proofs.SayingLaws.{prefix-behind, prefix-of-first, writes-then, writes-weaken}

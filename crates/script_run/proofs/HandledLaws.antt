@@ -25,6 +25,7 @@ use Rattle.script_run.specs.Runs.{Writes, logs}
 use Rattle.script_run.specs.Steps.{Step, Handle, Say, items_of}
 use Rattle.script_run.proofs.SayingLaws.{writes-nothing}
 use Rattle.script_run.proofs.StepLaws.{said-handled}
+use Rattle.script_run.proofs.SyncLineLaws.{cut-tells, items-tell, line-tells, memory-tells, none-tells, stop-tells}
 
 -- values, each as an item that is handled
 pub steps-of : {C : Type 0} (item_of : C → RunItem) (cs : List C)
@@ -50,6 +51,7 @@ module _ {M N D : Type 0} {m : machine.Ghosts M SessionState SessionCommand}
     all = handles_none old session_works tabs_work;
     later = omega arith;
     says = λ small. writes-nothing sink.written (λ said. said ≡ []) refl;
+    tells = λ modelled run. none-tells old run sink.written;
   }
 
   -- memory ran out before any of them
@@ -63,6 +65,7 @@ module _ {M N D : Type 0} {m : machine.Ghosts M SessionState SessionCommand}
     later = omega arith;
     cause = tt;
     says = λ small. writes-nothing sink.written (λ said. said ≡ []) refl;
+    tells = λ modelled run. memory-tells old run sink.written;
   }
 
   pub items-done : (items : List RunItem) (old new : RunWriters M N D m n d) (sink : Sunk) → AllDone items old new
@@ -72,6 +75,7 @@ module _ {M N D : Type 0} {m : machine.Ghosts M SessionState SessionCommand}
     later = omega arith;
     says = λ small. writes-nothing sink.written (λ said. said ≡ said_from (logs old) (map Handle items))
         (sym (said-handled (λ item. item) old.session.present.count old.tabs.present.count items));
+    tells = λ modelled run. items-tell old new modelled run items sink.written all;
   }
 
   pub items-stopped : (items : List RunItem) (old new : RunWriters M N D m n d) (sink : Sunk) (stopped : Stopped)
@@ -93,11 +97,13 @@ module _ {M N D : Type 0} {m : machine.Ghosts M SessionState SessionCommand}
     cause = tt;
     says = λ small. writes-nothing sink.written (λ said. said ≡ said_from (logs old) (map Handle h.before))
         (sym (said-handled (λ item. item) old.session.present.count old.tabs.present.count h.before));
+    tells = λ modelled run. stop-tells old new modelled run stopped h.before h.item sink.written h.session h.tabs;
   }
 
-  -- the line of a sync, with the numbers that the journals count
+  -- the line of a sync, with the numbers that the journals count, where all of them are told
   module _ (old : RunWriters M N D m n d) (before after : Sunk) (session_works : old.session.failed ≡ None)
-      (tabs_work : old.tabs.failed ≡ None) (line : List ℕ)
+      (tabs_work : old.tabs.failed ≡ None) (session_told : old.session.present.told ≡ old.session.present.count)
+      (tabs_told : old.tabs.present.told ≡ old.tabs.present.count) (line : List ℕ)
       (counts : line ≡ sync_line old.session.present.count old.tabs.present.count) where
     says-line : line ≡ said_from (logs old) (Say ∷ [])
     says-line = counts ∙ sym (append-nil (sync_line old.session.present.count old.tabs.present.count))
@@ -119,6 +125,8 @@ module _ {M N D : Type 0} {m : machine.Ghosts M SessionState SessionCommand}
       later = later;
       says = λ small. subst (λ said. Writes before.written after.written (λ x. x ≡ said)) says-line
           (whole T x before.written after.written bytes);
+      tells = λ modelled run. line-tells old run session_told tabs_told line counts before.written after.written
+          (whole T x before.written after.written bytes);
     }
 
     pub line-cut : (T : Type 0) (e : Failed) → WritesAll {T = T} before.written after.written line (Err e)
@@ -132,5 +140,7 @@ module _ {M N D : Type 0} {m : machine.Ghosts M SessionState SessionCommand}
       later = cause.later;
       cause = cause.failed;
       says = λ small. subst (λ said. Writes before.written after.written (λ x. IsPrefix x said)) says-line
+          (cut T e before.written after.written bytes);
+      tells = λ modelled run. cut-tells old run session_told tabs_told line counts before.written after.written
           (cut T e before.written after.written bytes);
     }

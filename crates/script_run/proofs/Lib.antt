@@ -1,9 +1,11 @@
 pub mod StepLaws
 pub mod SayingLaws
+pub mod FamilyLaws
+pub mod SyncLineLaws
 pub mod DoingLaws
 pub mod HandledLaws
 pub mod AskedLaws
-pub mod CourseLaws
+pub mod SegmentLaws
 pub mod KeepingLaws
 pub mod OutcomeSteps
 pub mod GroupOrderLaws
@@ -13,5 +15,7 @@ pub mod FewLaws
 pub mod RunLaws
 pub mod EndLaws
 pub mod CountLaws
+pub mod ProgressLaws
+pub mod SegmentRunLaws
 pub mod LinesLaws
 pub mod WholeLaws

@@ -31,7 +31,7 @@ use Rattle.script_run.specs.Families.{RunItem, kind_of}
 use Rattle.script_run.specs.Runs.{CutAt, EndsBy, HasHalted, WhereOpened, logs}
 use Rattle.script_run.specs.Steps.{Step, Handle, items_of, jobs_of}
 use Rattle.script_run.specs.Verdict.{Beginnings, end_of, ended, run_accounts}
-use Rattle.script_run.proofs.DoingLaws.{each}
+use Rattle.script_run.proofs.FamilyLaws.{each}
 use Rattle.script_run.proofs.StepLaws.{items-append, jobs-append}
 
 -- jobs of one journal: what a crash leaves, and why it refused

@@ -20,7 +20,8 @@ use Rattle.script_run.specs.Runs.{HoldsRun, logs, states_of}
 use Rattle.script_run.specs.Script.{Course, course_from, course_of, first_browser, steps_of, tidying_steps}
 use Rattle.script_run.specs.Steps.{Step, Handle, items_of, jobs_of}
 use Rattle.script_run.specs.Syncing.{SyncsBoth}
-use Rattle.script_run.proofs.DoingLaws.{all-then, done-then, each, halted-longer, halted-then}
+use Rattle.script_run.proofs.DoingLaws.{all-then, done-then, halted-longer, halted-then}
+use Rattle.script_run.proofs.FamilyLaws.{each}
 use Rattle.script_run.proofs.StepLaws.{items-append, jobs-append}
 
 module _ {D : Type 0} {d : disk.Ghosts D} where

@@ -20,6 +20,7 @@ use Rattle.script_run.specs.declared.halt.Halt.TheVariants as halt
 use Rattle.script_run.specs.Families.{RunItem}
 use Rattle.script_run.specs.Runs.{Logs, Writes, logs}
 use Rattle.script_run.specs.Steps.{Step, Handle, issued_to, items_of, said_behind}
+use Rattle.script_run.specs.SyncLines.{BothRun, TellsDone, TellsHalted}
 
 -- a sink, by what its type says of it
 pub record Sunk : Type 0 where
@@ -62,6 +63,8 @@ module _ {M N D : Type 0} {m : machine.Ghosts M SessionState SessionCommand}
     pub later : before.faults ≤ after.faults
     pub says : Count (logs old) steps →
         Writes before.written after.written (λ said. said ≡ said_from (logs old) steps)
+    pub tells : d.modelled → BothRun m.kind n.kind (logs old) →
+        TellsDone m.kind n.kind (logs old) (logs new) before.written after.written
 
   -- the items of these steps were done, and the next one was refused
   pub record StopsBehind (stopped : Stopped) (done left : List Step) (old new : RunWriters M N D m n d) : Type 0 where
@@ -89,6 +92,8 @@ module _ {M N D : Type 0} {m : machine.Ghosts M SessionState SessionCommand}
     pub later : before.faults ≤ after.faults
     pub cause : HaltCause before after why
     pub says : Count (logs old) steps → Writes before.written after.written (SaysDone why (logs old) done left)
+    pub tells : d.modelled → BothRun m.kind n.kind (logs old) →
+        TellsHalted why (logs old) (logs new) before.written after.written
 
   abbrev pub DoesSteps : {T : Type 0} → List Step → RunWriters M N D m n d → RunWriters M N D m n d → Sunk → Sunk
       → Result T Halt → Type 0

@@ -4,11 +4,14 @@ pub mod Script
 pub mod Verdict
 pub mod Counts
 pub mod Runs
+pub mod SyncLines
 pub mod Doing
 pub mod Starting
 pub mod Closed
 pub mod Syncing
+pub mod Segments
 pub mod Acting
 pub use Rattle.writer_core.specs.Accounts
 pub use Rattle.writer_core.specs.Working
+pub use Rattle.writer_core.specs.Telling
 pub use Rattle.run_words.specs.Outcome

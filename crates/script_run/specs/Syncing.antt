@@ -7,13 +7,16 @@ use Rattle.tab_restore_commands.specs.declared.command.TabsCommand.{TabsCommand}
 use Rattle.window_state.specs.States.{State as SessionState}
 use Rattle.closed_entries.specs.States.{State as ClosedState}
 use Rattle.writer_core.specs.Jobs.{session_job, tabs_job}
+use Rattle.writer_core.specs.Telling.{TellsTaken}
 use Rattle.writer_core.specs.Working.{Syncs}
 use Rattle.script_run.specs.Doing.{RunWriters}
 use Rattle.script_run.specs.Families.{RunItem}
 
 module _ {M N D : Type 0} {m : machine.Ghosts M SessionState SessionCommand}
     {n : machine.Ghosts N ClosedState TabsCommand} {d : disk.Ghosts D} where
-  -- behind a sync both disks hold what was done
+  -- behind a sync both disks hold what was done, and all of it is told
   pub record SyncsBoth (item : RunItem) (old new : RunWriters M N D m n d) : Type 0 where
     pub session : Syncs {T = Unit {0}} (session_job item) old.session new.session (Ok tt)
     pub tabs : Syncs {T = Unit {0}} (tabs_job item) old.tabs new.tabs (Ok tt)
+    pub session_told : TellsTaken {T = Unit {0}} (session_job item) new.session (Ok tt)
+    pub tabs_told : TellsTaken {T = Unit {0}} (tabs_job item) new.tabs (Ok tt)

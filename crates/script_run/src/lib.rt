@@ -27,7 +27,9 @@ mod halt;
 mod handling;
 mod lines;
 mod running;
+mod segments;
 mod starting;
+mod syncing;
 
 pub use halt::Halt;
 pub use running::run_script;

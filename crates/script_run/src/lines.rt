@@ -1,5 +1,5 @@
-//! The lines of a script, acted on one by one.
-//! What each of them asks is handled before the next one is read.
+//! The lines of a script, segment by segment.
+//! Between two of them both journals are synced, and the line of that is written.
 ghost use Rattle.std.specs.Prelude.{◌≡◌, ◌≤◌, ◌^◌, length, None, IfOk, OnOk};
 ghost use Rattle.session_disk.specs.declared.family.Family.TheVariants.{Tabs};
 ghost use Rattle.script_lines.specs.Lines.{lines};
@@ -8,13 +8,12 @@ ghost use Rattle.script_run.specs.Doing.{DoesSteps, sunk};
 ghost use Rattle.script_run.specs.Script.{course_from};
 ghost use Rattle.script_run.specs.Steps.{issued_to};
 
-use crate::acting::{Unasked, act_on};
-use crate::asking::handle_asked;
 use crate::halt::Halt;
+use crate::segments::{Ended, run_segment};
+use crate::syncing::sync_and_say;
 use browser_driver::Browser;
 use compactor::SessionMachine;
 use run_words::Why;
-use script_lines::first_line;
 use session_disk::{Clock, SessionDisk, Sink};
 use std::alloc::Global;
 use tabs_compactor::TabsMachine;
@@ -42,18 +41,16 @@ pub(crate) fn run_lines<K: Sink, D: SessionDisk, C: Clock>(
 {
     let mut number = 0;
     let mut rest = text;
-    while !rest.is_empty() {
-        let (line, others) = first_line(rest);
-        number += 1;
-        let asked = match act_on(alloc, browser, line) {
-            Ok(asked) => asked,
-            Err(Unasked::Refused(why)) => return Ok(Some((number, why))),
-            Err(Unasked::Memory) => return Err(Halt::Memory),
+    loop {
+        let (count, others) = match run_segment(alloc, writers, clock, browser, number, rest) {
+            Ok(Ended::Sync(count, others)) => (count, others),
+            Ok(Ended::Script(refused)) => return Ok(refused),
+            Err(halt) => return Err(halt),
         };
-        if let Err(halt) = handle_asked(alloc, writers, out, clock, asked) {
+        if let Err(halt) = sync_and_say(alloc, writers, out, clock) {
             return Err(halt);
         }
+        number = count;
         rest = others;
     }
-    Ok(None)
 }

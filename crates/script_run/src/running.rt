@@ -8,6 +8,7 @@ ghost use Rattle.script_run.specs.Doing.{DoesSteps, DoesUnsaid, sunk};
 ghost use Rattle.script_run.specs.Runs.{HoldsRun, LeavesRun, RunsScript, logs, states_of};
 ghost use Rattle.script_run.specs.Script.{course_of, first_browser, steps_of, tidying_steps};
 ghost use Rattle.script_run.specs.Steps.{issued_to};
+ghost use Rattle.script_run.specs.SyncLines.{TellsRun};
 
 use crate::halt::Halt;
 use crate::handling::{handle_commands, handle_item};
@@ -47,6 +48,9 @@ pub fn run_script<K: Sink, D: SessionDisk, C: Clock>(
     // What was done, written and told, or why the run halts; a journal refuses exactly where its account says so.
     ensures runs { RunsScript D.modelled (Rose (K.faults out.old) (K.faults out.new))
         (logs writers.old) (logs writers.new) text.now (K.written out.old) (K.written out.new) result }
+    // No line of a sync says more than the disks have been told, whatever the answer is.
+    ensures tells { TellsRun D.modelled (logs writers.old) (logs writers.new)
+        (K.written out.old) (K.written out.new) result }
     // A crash at any moment of the call leaves on each disk files that read to the state after some prefix of the
     // family's commands, with every told one in it, and each foreign file.
     ensures crash { LeavesRun D.modelled (logs writers.old) (logs writers.new) text.now }

@@ -1,13 +1,18 @@
-use Rattle.std.proofs.Common.{subst, arith}
+use Rattle.std.proofs.Common.{ℕ, Option, subst, arith}
 use Rattle.window_state.specs.States as window_state
 use Rattle.closed_entries.specs.States as closed_entries
+use Rattle.run_words.specs.Outcome.{start_line}
+use Rattle.run_words.specs.declared.why.Why.{Why}
+use Rattle.script_run.specs.Counts.{counts_of}
 use Rattle.script_run.specs.Doing.{sunk}
 use Rattle.script_run.specs.Runs.{logs, states_of}
 use Rattle.script_run.specs.Script.{steps_of}
+use Rattle.script_run.specs.SyncLines.{told_of}
 use Rattle.script_run.proofs.EndLaws.{has-run, left-start, run-halted, start-halted}
 use Rattle.script_run.proofs.FewLaws.{few-steps}
 use Rattle.script_run.proofs.PictureLaws.{shows-picture}
 use Rattle.script_run.proofs.RunLaws.{halted-lasts, left-done, left-halted}
+use Rattle.script_run.proofs.SyncLineLaws.{run-tells, run-tells-halted, start-tells}
 use Rattle.script_run.proofs.running.run_script.Goals as goal
 
 pub returns-in-Err-clause-runs : goal.returns-in-Err-clause-runs
@@ -93,3 +98,28 @@ returns-in-Err-run_begun-clause-crash g c =
     left-halted old c.run_begun.new.writers (steps_of firsts c.args.text.now)
     (few-steps firsts c.args.text.now session c.requires.short) (sunk g.K.Sink.written g.K.Sink.faults c.begin.new.out)
     (sunk g.K.Sink.written g.K.Sink.faults c.run_begun.new.out) c.in-Err-run_begun.halt c.in-Err-run_begun.ensures.steps
+
+pub returns-in-Err-clause-tells : goal.returns-in-Err-clause-tells
+returns-in-Err-clause-tells g c = λ modelled run.
+    let old = c.args.writers.now in
+    let firsts = states_of (logs old) in
+    start-tells (start_line (counts_of firsts)) (told_of (logs old)) (Option (ℕ × Why)) c.in-Err.halt
+    (sunk g.K.Sink.written g.K.Sink.faults c.args.out.now) (sunk g.K.Sink.written g.K.Sink.faults c.begin.new.out)
+    (record { later = c.in-Err.ensures.starts.later; says = c.in-Err.ensures.starts.says })
+
+pub returns-in-Ok-run_begun-clause-tells : goal.returns-in-Ok-run_begun-clause-tells
+returns-in-Ok-run_begun-clause-tells g c = λ modelled run.
+    let old = c.args.writers.now in
+    let new = c.run_begun.new.writers in
+    run-tells (start_line (counts_of (states_of (logs old)))) (told_of (logs new)) c.in-Ok-run_begun.refused
+    (g.K.Sink.written c.args.out.now) (g.K.Sink.written c.begin.new.out) (g.K.Sink.written c.run_begun.new.out)
+    c.in-Ok.ensures.starts.says (c.in-Ok-run_begun.ensures.steps.tells modelled run).says
+
+pub returns-in-Err-run_begun-clause-tells : goal.returns-in-Err-run_begun-clause-tells
+returns-in-Err-run_begun-clause-tells g c = λ modelled run.
+    let old = c.args.writers.now in
+    let new = c.run_begun.new.writers in
+    run-tells-halted (start_line (counts_of (states_of (logs old)))) (told_of (logs new)) (Option (ℕ × Why))
+    c.in-Err-run_begun.halt (g.K.Sink.written c.args.out.now) (g.K.Sink.written c.begin.new.out)
+    (g.K.Sink.written c.run_begun.new.out) c.in-Ok.ensures.starts.says
+    (c.in-Err-run_begun.ensures.steps.tells modelled run).says

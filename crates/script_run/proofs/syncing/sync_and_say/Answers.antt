@@ -3,7 +3,7 @@ use Rattle.writer_core.specs.declared.item.Item.TheVariants.{Sync}
 use Rattle.script_run.specs.Doing.{sunk}
 use Rattle.script_run.specs.Steps.{Handle, Say}
 use Rattle.script_run.proofs.DoingLaws.{done-then, halted-then, halted-longer}
-use Rattle.script_run.proofs.asking.sync_and_say.Goals as goal
+use Rattle.script_run.proofs.syncing.sync_and_say.Goals as goal
 
 pub say_sync-requires-clause-session_works : goal.say_sync-requires-clause-session_works
 say_sync-requires-clause-session_works g c =
@@ -14,6 +14,12 @@ pub say_sync-requires-clause-tabs_work : goal.say_sync-requires-clause-tabs_work
 say_sync-requires-clause-tabs_work g c =
     let sink = sunk g.K.Sink.written g.K.Sink.faults c.args.out.now in
     (c.in_default.ensures.steps sink).all.tabs.answers.0
+
+pub say_sync-requires-clause-session_told : goal.say_sync-requires-clause-session_told
+say_sync-requires-clause-session_told g c = c.in_default.ensures.syncs.session_told
+
+pub say_sync-requires-clause-tabs_told : goal.say_sync-requires-clause-tabs_told
+say_sync-requires-clause-tabs_told g c = c.in_default.ensures.syncs.tabs_told
 
 pub returns-in-Err : goal.returns-in-Err
 returns-in-Err g c =
