@@ -1,5 +1,5 @@
 -- The steps of a run joined: why it answers so, what it has said, and what it leaves on both disks.
-use Rattle.std.proofs.Common.{◌≡◌, ℕ, ◌<◌, List, [], ◌∷◌, ◌++◌, length, Option, Some, None, IfSome, Result, Ok, Err, refl, sym, ap, ◌∙◌, subst, inl, inr, arith}
+use Rattle.std.proofs.Common.{◌≡◌, ℕ, ◌+◌, ◌<◌, List, [], ◌∷◌, ◌++◌, length, Option, Some, None, IfSome, Result, Ok, Err, refl, sym, ap, ◌∙◌, subst, inl, inr, arith}
 use Rattle.std.proofs.lemmas.List.{append-nil}
 use Rattle.std.proofs.Math.Path.{fun_ext}
 use Rattle.session_disk.specs.Histories.{History, Leaves}
@@ -24,6 +24,8 @@ use Rattle.writer_core.specs.Opening.{Opens, RefusesOpening, disks}
 use Rattle.writer_core.specs.Working.{Beginning, FaultCause, HoldsCommands}
 use Rattle.writer_core.specs.declared.handling.Stopped.{Stopped}
 use Rattle.writer_core.proofs.OpeningLaws.{beginning, on, opened_left, opened_state}
+use Rattle.run_words.specs.declared.order.Origin.{Origin}
+use Rattle.run_words.specs.declared.order.Origin.TheVariants.{Script as ReadScript, Generated}
 use Rattle.run_words.specs.declared.status.Status.{Status}
 use Rattle.run_words.specs.declared.status.Status.TheVariants.{Write, Memory}
 use Rattle.run_words.specs.declared.why.Why.{Why}
@@ -38,8 +40,8 @@ use Rattle.script_run.specs.Verdict.{Beginnings, RunAccounts, end_of, firsts_of,
 use Rattle.session_drive.specs.Answers.{RunsAs, answer_by, status_of}
 use Rattle.session_drive.specs.Attempt.{IsRunOf, SaysFirst}
 use Rattle.session_drive.specs.Causes.{HasCause}
-use Rattle.session_drive.specs.Reading.{IsAsked, read_causes}
-use Rattle.session_drive.specs.Run.{Found, BeginsAt, EndsBehind, IsAtOpening, IsCutBy, IsOver, LeavesScript, Opened, SaysCut, Started, WhereBegun, WhereKnown, answer_of, answer_to, causes, script_from, script_of}
+use Rattle.session_drive.specs.Reading.{IsAsked, IsScript, read_causes}
+use Rattle.session_drive.specs.Run.{Found, BeginsAt, EndsBehind, EndsFirst, IsAtOpening, IsCutBy, IsOver, LeavesScript, Opened, SaysCut, Started, WhereBegun, WhereKnown, answer_of, answer_to, causes, script_from, script_of}
 use Rattle.session_drive.proofs.CauseLaws.{IsExact, answer_done, cause_answered, cause_implied, fault_caused, fault_not_done, not_answered}
 use Rattle.session_drive.proofs.EndLaws.{ended_by, opening_stays, session_stops, tabs_stop}
 use Rattle.session_drive.proofs.OutputLaws.{fault_said, read_said, script_said, writes_nothing, writes_weaken}
@@ -91,6 +93,12 @@ cut_by found family (fault.LastStamp stamp) done left ends = ends tt
 cut_by found family fault.Disk done left ends = tt
 cut_by found family fault.Memory done left ends = tt
 
+-- a script that is read is the text of the source, which isn't too long
+source_short : (origin : Origin) (left : Option (List ℕ)) (text : List ℕ) → IsScript origin left text → IfSome left (λ all. (most : ℕ) → origin ≡ ReadScript most → length all < most + 1)
+source_short origin None text s = tt
+source_short (ReadScript few) (Some all) text s = λ most is. subst (λ (t : List ℕ). length t < most + 1) s.known (s.short most is)
+source_short (Generated x count) (Some all) text s = λ most is. absurd cc
+
 -- there is no script
 pub not_read : (found : Found) (read write : Type 0) (written : Option (List ℕ)) (status : Status) → ((family : Family) → found.exit family ≡ found.entry family) → HasCause (read_causes (order_of found.words) found.text read) status → IsRunOf found read write written written status
 not_read found read write written status same cause = record {
@@ -122,6 +130,9 @@ module _ (found : Found) (limits : Limits) (script : List ℕ) (a : IsAsked (ord
       let here : a.asked.options.max_file < needed = subst (λ (o : Options). o.max_file < needed) (sym a.limited) over in
       subst (λ (o : Option Asked). IsOver o needed) (sym a.is) here
 
+  ends_first : (answer : Status) → WhereKnown found (λ b text. end_of b (items_of (steps_of (firsts_of b) text)) ≡ Some answer) → EndsFirst found answer
+  ends_first answer ends = record { asked = a.asked; is = a.is; short = source_short a.asked.origin found.text script a.script; ends = ends }
+
   known : (P : List ℕ → Type 0) → P script → IfSome (script_of found) P
   known P h = told_text P (script_of found) script (subst (λ (o : Option Asked). IfSome (script_from found.text o) (λ all. script ≡ all)) (sym a.is) a.script.known) h
 
@@ -132,8 +143,8 @@ module _ (found : Found) (limits : Limits) (script : List ℕ) (a : IsAsked (ord
       let ends = λ (exact : IsExact why) (x : RunAccounts) (h : StopsFor x family why). ended_by x family limits.max_file (found.entry family).failures (found.exit family).failures why r.cause exact h in
       record {
         cause = fault_caused found read write family limits.max_file (found.entry family).failures (found.exit family).failures why r.cause (λ rose. rose) is_over
-            (λ exact modelled b at. known (λ text. end_of b (items_of (steps_of (firsts_of b) text)) ≡ Some (status_of family why))
-            (let items = items_of (steps_of (firsts_of b) script) in ends exact (run_accounts b items) (opening_stays b items family why (stops modelled b at))));
+            (λ exact. ends_first (status_of family why) (λ modelled b at. known (λ text. end_of b (items_of (steps_of (firsts_of b) text)) ≡ Some (status_of family why))
+            (let items = items_of (steps_of (firsts_of b) script) in ends exact (run_accounts b items) (opening_stays b items family why (stops modelled b at)))));
         output = writes_nothing written (SaysFirst found (status_of family why)) (fault_said found family why []
             (inl (at_opening found family why (λ exact modelled b at. ends exact (run_accounts b []) (stops modelled b at)), refl)));
         done = λ done. absurd (fault_not_done family why done);
@@ -258,8 +269,8 @@ module _ (found : Found) (limits : Limits) (script : List ℕ) (a : IsAsked (ord
         cause = fault_caused found read write stopped.family (old stopped.family).limits.max_file (old stopped.family).failures (new stopped.family).failures stopped.fault h.cause
             (λ rose. omega (arith, rose, (opens stopped.family).later, ap (λ (s : Seen). s.failures) (closed stopped.family)))
             (λ needed over. is_over needed (subst (λ (l : Limits). l.max_file < needed) (opens stopped.family).limited over))
-            (λ exact. where_known (λ b firsts text. end_of b (items_of (steps_of firsts text)) ≡ Some (status_of stopped.family stopped.fault)) (λ modelled b limited on.
-            ended_by (run_accounts b (items_of steps)) stopped.family (old stopped.family).limits.max_file (old stopped.family).failures (new stopped.family).failures stopped.fault h.cause exact (h.ends modelled b limited on)));
+            (λ exact. ends_first (status_of stopped.family stopped.fault) (where_known (λ b firsts text. end_of b (items_of (steps_of firsts text)) ≡ Some (status_of stopped.family stopped.fault)) (λ modelled b limited on.
+            ended_by (run_accounts b (items_of steps)) stopped.family (old stopped.family).limits.max_file (old stopped.family).failures (new stopped.family).failures stopped.fault h.cause exact (h.ends modelled b limited on))));
         output = writes_weaken written printed (SaysHalted found.modelled old (states_of old) steps (halt.Journal stopped)) (SaysFirst found (status_of stopped.family stopped.fault)) (λ said (done, c, e). fault_said found stopped.family stopped.fault said
             (inr (said_done (status_of stopped.family stopped.fault) done (Handle c.item ∷ c.rest) said c.parts (cut_by found stopped.family stopped.fault done (Handle c.item ∷ c.rest) (cut_at stopped done c h.cause)) e))) h.says;
         done = λ done. absurd (fault_not_done stopped.family stopped.fault done);

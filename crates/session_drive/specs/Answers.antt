@@ -11,6 +11,7 @@ use Rattle.run_words.specs.declared.status.Long.TheVariants.{File}
 use Rattle.script_run.specs.declared.halt.Halt.{Halt}
 use Rattle.script_run.specs.declared.halt.Halt.TheVariants as halt
 use Rattle.script_run.specs.Runs.{Logs, RunsScript}
+use Rattle.script_run.specs.SyncLines.{TellsRun}
 use Rattle.session_drive.specs.Run.{answer_of}
 
 -- a journal's fault as an answer
@@ -41,4 +42,5 @@ pub record RunsAs (modelled failed : Type 0) (old new : Logs) (text : List ℕ) 
     (status : Status) : Type 0 where
   pub ran : Result (Option (ℕ × Why)) Halt
   pub runs : RunsScript modelled failed old new text written printed ran
+  pub tells : TellsRun modelled old new written printed ran
   pub is : status ≡ answer_by ran (new Session).present.count (new Tabs).present.count

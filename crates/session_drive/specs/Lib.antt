@@ -4,3 +4,5 @@ pub mod Reading
 pub mod Answers
 pub mod Attempt
 pub mod Closing
+pub mod Telling
+pub mod Verdict

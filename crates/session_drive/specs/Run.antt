@@ -102,9 +102,13 @@ answer_to firsts text =
 abbrev pub NoneEnds : Found → Type 0
 NoneEnds found = WhereKnown found (λ b text. end_of b (items_of (steps_of (firsts_of b) text)) ≡ None)
 
--- the first item that the accounts of both families refuse ends the run with this answer
-abbrev pub EndsFirst : Found → Status → Type 0
-EndsFirst found answer = WhereKnown found (λ b text. end_of b (items_of (steps_of (firsts_of b) text)) ≡ Some answer)
+-- the words ask for a run, its script isn't longer than they allow, and the first item that the accounts of both
+-- families refuse ends it with this answer
+pub record EndsFirst (found : Found) (answer : Status) : Type 0 where
+  pub asked : Asked
+  pub is : order_of found.words ≡ Some asked
+  pub short : IfSome found.text (λ text. IsShort text (Some asked))
+  pub ends : WhereKnown found (λ b text. end_of b (items_of (steps_of (firsts_of b) text)) ≡ Some answer)
 
 -- a file would have more bytes than the words allow
 abbrev pub IsOver : Option Asked → ℕ → Type 0

@@ -12,6 +12,8 @@ ghost use Rattle.session_drive.specs.Attempt.{IsRunOf};
 ghost use Rattle.session_drive.specs.Causes.{HasCause};
 ghost use Rattle.session_drive.specs.Run.{CallsNoDisk, HoldsScript, LeavesScript, Opened, ReadsNone, SaysRun};
 ghost use Rattle.session_drive.specs.Run.{ShowsScript, causes, found};
+ghost use Rattle.session_drive.specs.Telling.{TellsFirst, TellsScript};
+ghost use Rattle.session_drive.specs.Verdict.{IsAsVerdict};
 
 use crate::answers::{answer_of, status_of};
 use crate::closing::{close, finish};
@@ -58,11 +60,22 @@ pub fn drive_inline<S: Source, K: Sink, D: SessionDisk, C: Clock>(
     ensures picture { ShowsScript
         (found (map string_bytes words.now) (S.left script.old) D.modelled
         (disks D.history D.failed session tabs) (disks D.history D.failed result.1 result.2)) result.0 }
+    // Where nothing failed, answer, output and files are those of the verdict.
+    ensures verdict { IsAsVerdict
+        (found (map string_bytes words.now) (S.left script.old) D.modelled
+        (disks D.history D.failed session tabs) (disks D.history D.failed result.1 result.2))
+        (Rose (S.faults script.old) (S.faults script.new)) (Rose (K.faults out.old) (K.faults out.new))
+        (K.written out.old) (K.written out.new) result.0 }
     // A crash at any moment of the call leaves on each disk files that read to the state after some prefix of the
     // family's commands, with every told one in it, and each foreign file.
     ensures crash { LeavesScript
         (found (map string_bytes words.now) (S.left script.old) D.modelled
         (disks D.history D.failed session tabs) (disks D.history D.failed result.1 result.2)) }
+    // No line of a sync that was written says more than the disks have been told by the end, whatever the answer is.
+    ensures tells { TellsScript
+        (found (map string_bytes words.now) (S.left script.old) D.modelled
+        (disks D.history D.failed session tabs) (disks D.history D.failed result.1 result.2))
+        (K.written out.old) (K.written out.new) }
     // The disk of the tabs is called only after the session's journal was opened.
     ensures order { (result.2 ≡ tabs) ⊎ Opened
         (found (map string_bytes words.now) (S.left script.old) D.modelled
@@ -90,6 +103,10 @@ fn attempt<S: Source, K: Sink, D: SessionDisk, C: Clock>(
         (found (map string_bytes words.now) (S.left script.old) D.modelled
         (disks D.history D.failed session tabs) (disks D.history D.failed result.1 result.2))
         (Rose (S.faults script.old) (S.faults script.new)) (Rose (K.faults out.old) (K.faults out.new))
+        (K.written out.old) (K.written out.new) result.0 }
+    ensures tells { TellsFirst
+        (found (map string_bytes words.now) (S.left script.old) D.modelled
+        (disks D.history D.failed session tabs) (disks D.history D.failed result.1 result.2))
         (K.written out.old) (K.written out.new) result.0 }
     ensures order { (result.2 ≡ tabs) ⊎ Opened
         (found (map string_bytes words.now) (S.left script.old) D.modelled

@@ -12,7 +12,9 @@ use Rattle.script_run.specs.Runs.{LeavesRun, logs}
 use Rattle.session_drive.specs.Answers.{RunsAs}
 use Rattle.session_drive.specs.Attempt.{IsRunOf}
 use Rattle.session_drive.specs.Run.{Found, found}
+use Rattle.session_drive.specs.Telling.{TellsFirst, told_by_end}
 use Rattle.session_drive.proofs.RunLaws.{as_stopped, closed_disks, each, not_read, opened, ran, session_refused, tabs_refused}
+use Rattle.session_drive.proofs.TellingLaws.{nothing-told, script-tells}
 use Rattle.session_drive.proofs.drive.attempt.Goals as goal
 
 pub returns-in-Err-clause-run : goal.returns-in-Err-clause-run
@@ -71,3 +73,37 @@ returns-clause-order g c =
     let exit = disks g.D.SessionDisk.history g.D.SessionDisk.failed c.close-2.result c.close-3.result in
     let here : Found = found (map string_bytes c.args.words.now) (g.S.Source.left c.args.script.now) g.D.SessionDisk.modelled entry exit in
     inr (opened here c.in-Ok.task.limits c.in-Ok.task.text.items c.in-Ok.ensures.read Session (log c.in-Ok-open_journal.journal) c.in-Ok-open_journal.ensures.opens)
+
+pub returns-in-Err-clause-tells : goal.returns-in-Err-clause-tells
+returns-in-Err-clause-tells g c = λ modelled firsts ready.
+    let entry = disks g.D.SessionDisk.history g.D.SessionDisk.failed c.args.session c.args.tabs in
+    nothing-told (told_by_end (found (map string_bytes c.args.words.now) (g.S.Source.left c.args.script.now) g.D.SessionDisk.modelled entry entry)) (g.K.Sink.written c.args.out.now) c.in-Err.status
+
+pub returns-in-Err-open_journal-clause-tells : goal.returns-in-Err-open_journal-clause-tells
+returns-in-Err-open_journal-clause-tells g c = λ modelled firsts ready.
+    let entry = disks g.D.SessionDisk.history g.D.SessionDisk.failed c.args.session c.args.tabs in
+    let exit = disks g.D.SessionDisk.history g.D.SessionDisk.failed c.in-Err-open_journal.session c.args.tabs in
+    nothing-told (told_by_end (found (map string_bytes c.args.words.now) (g.S.Source.left c.args.script.now) g.D.SessionDisk.modelled entry exit)) (g.K.Sink.written c.args.out.now) c.status_of.result
+
+pub returns-in-Err-open_journal-2-clause-tells : goal.returns-in-Err-open_journal-2-clause-tells
+returns-in-Err-open_journal-2-clause-tells g c = λ modelled firsts ready.
+    let entry = disks g.D.SessionDisk.history g.D.SessionDisk.failed c.args.session c.args.tabs in
+    let exit = disks g.D.SessionDisk.history g.D.SessionDisk.failed c.close.result c.in-Err-open_journal-2.tabs in
+    nothing-told (told_by_end (found (map string_bytes c.args.words.now) (g.S.Source.left c.args.script.now) g.D.SessionDisk.modelled entry exit)) (g.K.Sink.written c.args.out.now) c.status_of-in-Err-open_journal-2.result
+
+pub returns-clause-tells : goal.returns-clause-tells
+returns-clause-tells g c =
+    let entry = disks g.D.SessionDisk.history g.D.SessionDisk.failed c.args.session c.args.tabs in
+    let exit = disks g.D.SessionDisk.history g.D.SessionDisk.failed c.run_over-status.new.writers.session.disk c.run_over-status.new.writers.tabs.disk in
+    let words : List (List ℕ) = map string_bytes c.args.words.now in
+    let left = g.S.Source.left c.args.script.now in
+    let here : Found = found words left g.D.SessionDisk.modelled entry exit in
+    let old = logs {D = g.row.D.Denot} {d = g.D.SessionDisk} (record { session = c.in-Ok-open_journal.journal; tabs = c.in-Ok-open_journal-2.journal }) in
+    let new = logs {D = g.row.D.Denot} {d = g.D.SessionDisk} c.run_over-status.new.writers in
+    let failed = Rose (g.K.Sink.faults c.args.out.now) (g.K.Sink.faults c.run_over-status.new.out) in
+    subst (λ (e : Family → Seen). TellsFirst (found words left g.D.SessionDisk.modelled entry e) (g.K.Sink.written c.args.out.now) (g.K.Sink.written c.run_over-status.new.out) c.run_over-status.result)
+    (sym (closed_disks g.D.SessionDisk.history g.D.SessionDisk.failed c.close-2.result c.close-3.result c.run_over-status.new.writers.session.disk c.run_over-status.new.writers.tabs.disk c.close-2.ensures c.close-3.ensures))
+    (script-tells here c.in-Ok.task.limits old new
+    (each (λ family. Opens (kind_of family) g.D.SessionDisk.modelled c.in-Ok.task.limits (entry family) (old family)) c.in-Ok-open_journal.ensures.opens c.in-Ok-open_journal-2.ensures.opens)
+    (each (λ family. exit family ≡ record { history = (new family).history; failures = (new family).failures }) refl refl)
+    failed c.deref.result.now (g.K.Sink.written c.args.out.now) (g.K.Sink.written c.run_over-status.new.out) c.run_over-status.result c.run_over-status.ensures.run)
