@@ -1,0 +1,4 @@
+mod PairLaws
+mod QuotableLaws
+mod ReadingLaws
+mod WorkedTexts

@@ -1,0 +1,2 @@
+pub mod Shown
+pub use Rattle.pickle_cells.specs.CellReading
