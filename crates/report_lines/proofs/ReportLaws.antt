@@ -1,0 +1,57 @@
+-- How a report goes on: more of it is made, more of it is sent, and it ends.
+use Rattle.std.proofs.Common.{◌≡◌, ℕ, List, [], ◌++◌, append_assoc, Option, None, Some, refl, sym, ap, ◌∙◌}
+use Rattle.std.proofs.lemmas.List.{append-nil}
+use Rattle.std.specs.Io.KnownBytes.{append_known}
+use Rattle.report_lines.specs.Reports.{IsUnderway, WroteAll, WrotePrefix}
+
+append_known-nil : (known : Option (List ℕ)) → append_known known [] ≡ known
+append_known-nil None = refl
+append_known-nil (Some bytes) = ap Some (append-nil bytes)
+
+append_known-append : (known : Option (List ℕ)) (x y : List ℕ) → append_known (append_known known x) y ≡ append_known known (x ++ y)
+append_known-append None x y = refl
+append_known-append (Some bytes) x y = ap Some (append_assoc bytes x y)
+
+-- where a report begins, all of it waits
+pub begun : (before : Option (List ℕ)) (waiting : List ℕ) → IsUnderway before before waiting waiting
+begun before waiting = record { out = []; written = sym (append_known-nil before); parts = refl }
+
+-- more text waits behind what waited
+pub made : (before now : Option (List ℕ)) (waiting text more : List ℕ) → IsUnderway before now waiting text → IsUnderway before now (waiting ++ more) (text ++ more)
+made before now waiting text more u = record {
+  out = u.out;
+  written = u.written;
+  parts = sym (append_assoc u.out waiting more) ∙ ap (λ (x : List ℕ). x ++ more) u.parts;
+}
+
+-- of what waited some was sent, and this still waits
+pub sent : (before now later : Option (List ℕ)) (waiting text left : List ℕ) → IsUnderway before now waiting text → IsUnderway now later left waiting → IsUnderway before later left text
+sent before now later waiting text left u v = record {
+  out = u.out ++ v.out;
+  written = v.written ∙ ap (λ (x : Option (List ℕ)). append_known x v.out) u.written ∙ append_known-append before u.out v.out;
+  parts = append_assoc u.out v.out left ∙ ap (λ (x : List ℕ). u.out ++ x) v.parts ∙ u.parts;
+}
+
+-- a prefix of what waited was sent, and then no more
+pub stopped : (before now later : Option (List ℕ)) (waiting text : List ℕ) → IsUnderway before now waiting text → WrotePrefix now later waiting → WrotePrefix before later text
+stopped before now later waiting text u (rest, v) = (rest, sent before now later waiting text rest u v)
+
+-- all that waited was sent
+pub ended : (before now later : Option (List ℕ)) (waiting text : List ℕ) → IsUnderway before now waiting text → WroteAll now later waiting → WroteAll before later text
+ended before now later waiting text u all =
+    all ∙ ap (λ (x : Option (List ℕ)). append_known x waiting) u.written ∙ append_known-append before u.out waiting ∙ ap (append_known before) u.parts
+
+-- all of a text was written, so none of it waits
+pub none_waits : (before now : Option (List ℕ)) (text : List ℕ) → WroteAll before now text → IsUnderway before now [] text
+none_waits before now text all = record { out = text; written = all; parts = append-nil text }
+
+-- a prefix of a text is one of a text that goes on
+pub goes_on : (before now : Option (List ℕ)) (text more whole : List ℕ) → text ++ more ≡ whole → WrotePrefix before now text → WrotePrefix before now whole
+goes_on before now text more whole e (rest, u) = (
+  rest ++ more,
+  record {
+    out = u.out;
+    written = u.written;
+    parts = sym (append_assoc u.out rest more) ∙ ap (λ (x : List ℕ). x ++ more) u.parts ∙ e;
+  },
+)

@@ -1,0 +1,2 @@
+pub mod Reports
+pub use Rattle.session_disk.specs.Causes

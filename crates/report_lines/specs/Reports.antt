@@ -1,0 +1,21 @@
+-- The text of a report: what of it went out to a sink that tells its bytes, and what waits.
+use Rattle.std.specs.Prelude.{◌≡◌, ℕ, List, ◌++◌, Option, Result, MatchResult}
+use Rattle.std.specs.Io.KnownBytes.{append_known}
+
+-- since the sink had written `before`, this text was made: a part of it was written, and the rest of it waits
+pub record IsUnderway (before now : Option (List ℕ)) (waiting text : List ℕ) : Type 0 where
+  pub out : List ℕ
+  pub written : now ≡ append_known before out
+  pub parts : out ++ waiting ≡ text
+
+-- all of the text was written
+abbrev pub WroteAll : Option (List ℕ) → Option (List ℕ) → List ℕ → Type 0
+WroteAll before now text = now ≡ append_known before text
+
+-- some prefix of the text was written
+abbrev pub WrotePrefix : Option (List ℕ) → Option (List ℕ) → List ℕ → Type 0
+WrotePrefix before now text = (rest : List ℕ) × IsUnderway before now rest text
+
+-- all of the text was written, or after a failure, of whatever kind, some prefix of it
+abbrev pub Reports : {T E : Type 0} → Option (List ℕ) → Option (List ℕ) → List ℕ → Result T E → Type 0
+Reports before now text result = MatchResult result (λ _. WroteAll before now text) (λ _. WrotePrefix before now text)
