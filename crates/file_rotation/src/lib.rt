@@ -28,5 +28,7 @@ mod stamp;
 pub use choice::{Chosen, choose};
 pub use clearing::clear_older;
 pub use fault::RotateFault;
+pub use frames::{FIRST_FRAME, frame_at, is_marker};
+pub use reading::read_whole;
 pub use recovery::{Recovered, recover};
 pub use stamp::{LastStamp, fresh_stamp};

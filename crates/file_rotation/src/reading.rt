@@ -32,8 +32,9 @@ pub(crate) fn fill<D: SessionDisk>(
     Ok(filled)
 }
 
-/// All bytes of a file, in one buffer of the length that the disk answers.
-pub(crate) fn read_whole<D: SessionDisk>(
+/// All bytes of a file, in one buffer of the length that the disk answers. A refusal is the disk's own failure or want of
+/// memory.
+pub fn read_whole<D: SessionDisk>(
     alloc: Global,
     disk: &mut D,
     stamp: u64,
