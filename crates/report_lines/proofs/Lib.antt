@@ -1,2 +1,2 @@
 pub mod ReportLaws
-mod WritingLaws
+pub mod WritingLaws

@@ -1,5 +1,5 @@
 -- How a report goes on: more of it is made, more of it is sent, and it ends.
-use Rattle.std.proofs.Common.{◌≡◌, ℕ, List, [], ◌++◌, append_assoc, Option, None, Some, refl, sym, ap, ◌∙◌}
+use Rattle.std.proofs.Common.{◌≡◌, ℕ, List, [], ◌++◌, append_assoc, Option, None, Some, Result, Ok, Err, IsErr, MatchResult, refl, sym, ap, ◌∙◌}
 use Rattle.std.proofs.lemmas.List.{append-nil}
 use Rattle.std.specs.Io.KnownBytes.{append_known}
 use Rattle.report_lines.specs.Reports.{IsUnderway, WroteAll, WrotePrefix}
@@ -55,3 +55,33 @@ goes_on before now text more whole e (rest, u) = (
     parts = sym (append_assoc u.out rest more) ∙ ap (λ (x : List ℕ). x ++ more) u.parts ∙ e;
   },
 )
+
+-- two texts, one behind the other
+pub adds_more : (before now later : Option (List ℕ)) (old mid new more others : List ℕ) → IsUnderway before now mid (old ++ more) → IsUnderway now later new (mid ++ others) → IsUnderway before later new (old ++ (more ++ others))
+adds_more before now later old mid new more others u v =
+    let both : IsUnderway before later new ((old ++ more) ++ others) = sent before now later (mid ++ others) ((old ++ more) ++ others) new (made before now mid (old ++ more) others u) v in
+    rw (append_assoc old more others) at both
+
+-- the report stopped in the second one
+pub adds_stopped : (before now later : Option (List ℕ)) (old mid more others : List ℕ) → IsUnderway before now mid (old ++ more) → WrotePrefix now later (mid ++ others) → WrotePrefix before later (old ++ (more ++ others))
+adds_stopped before now later old mid more others u cut =
+    let both : WrotePrefix before later ((old ++ more) ++ others) = stopped before now later (mid ++ others) ((old ++ more) ++ others) (made before now mid (old ++ more) others u) cut in
+    rw (append_assoc old more others) at both
+
+-- or in the first one
+pub adds_first : (before now : Option (List ℕ)) (old more others : List ℕ) → WrotePrefix before now (old ++ more) → WrotePrefix before now (old ++ (more ++ others))
+adds_first before now old more others cut = goes_on before now (old ++ more) others (old ++ (more ++ others)) (append_assoc old more others) cut
+
+-- the report stopped before any of the text went out
+pub adds_none : (before : Option (List ℕ)) (old more : List ℕ) → WrotePrefix before before (old ++ more)
+adds_none before old more = (old ++ more, begun before (old ++ more))
+
+-- a call was refused when a prefix of the text had been written
+pub refused : {T E : Type 0} (before now : Option (List ℕ)) (whole : List ℕ) (more : T → Type 0) (result : Result T E) → IsErr result → WrotePrefix before now whole →
+    MatchResult result more (λ _. WrotePrefix before now whole)
+refused before now whole more (Ok x) err cut = absurd cc
+refused before now whole more (Err e) err cut = cut
+
+-- or when nothing of it was sent
+pub refused_at_once : {T E : Type 0} (before : Option (List ℕ)) (whole : List ℕ) (more : T → Type 0) (result : Result T E) → IsErr result → MatchResult result more (λ _. WrotePrefix before before whole)
+refused_at_once before whole more result err = refused before before whole more result err (whole, begun before whole)

@@ -15,6 +15,8 @@
 //! ```
 #![tactic(auto)]
 
+mod fault;
 mod sending;
 
+pub use fault::ReportFault;
 pub use sending::{PIECE, send_piece, send_rest};
