@@ -1,0 +1,9 @@
+pub mod FileReading
+pub mod Families
+pub mod FileKinds
+pub mod Tallies
+pub mod Lines
+pub mod FileTexts
+pub use Rattle.snss_frames.specs.Reading
+pub use Rattle.payload_words.specs.Words
+pub use Rattle.report_lines.specs.Reports
