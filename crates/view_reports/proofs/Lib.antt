@@ -1,0 +1,6 @@
+mod ArrayLaws
+mod JsonTexts
+mod PieceLaws
+mod ShownTextLaws
+mod StreamLaws
+mod WorkedReports

@@ -1,0 +1,5 @@
+use Rattle.report_lines.proofs.ReportLaws.{refused_at_once}
+use Rattle.view_reports.proofs.lines.ViewWindowLines.put.Goals as goal
+
+pub returns-in_err-append_window-clause-report : goal.returns-in_err-append_window-clause-report
+returns-in_err-append_window-clause-report g c = refused_at_once _ _ _ _ c.from_residual.ensures.0
