@@ -1,0 +1,12 @@
+pub mod Listings
+pub mod Verdicts
+pub mod Answers
+pub mod Stops
+pub use Rattle.session_disk.specs.Images
+pub use Rattle.file_rotation.specs.Choice
+pub use Rattle.file_reports.specs.FileTexts
+pub use Rattle.view_reports.specs.RecoveredLines
+pub use Rattle.view_reports.specs.RecoveredValue
+pub use Rattle.report_lines.specs.Reports
+pub use Rattle.inspect_words.specs.Words
+pub use Rattle.inspect_words.specs.Outcome
