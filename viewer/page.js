@@ -185,7 +185,7 @@ function fill(place) {
       group = item.group;
       list = make("ol", group.kind === "window" ? "tabs" : "tabs inner");
       list.setAttribute("role", "list");
-      list.setAttribute("aria-label", `Tabs of ${group.name}`);
+      list.setAttribute("aria-label", group.name);
       chunk.append(list);
     }
     list.append(rowOf(item));
