@@ -32,9 +32,14 @@ _cidranoth_stamps() {
 
 _cidranoth() {
     local words='run gen list check show recover json view --help --version'
-    local cur=${COMP_WORDS[COMP_CWORD]} word=${COMP_WORDS[1]} place=$COMP_CWORD
+    local all=("${COMP_WORDS[@]}") cur=${2-${COMP_WORDS[COMP_CWORD]}} word=${COMP_WORDS[1]} place=$COMP_CWORD
     local prefix='' named='' options='' wanted=''
     COMPREPLY=()
+
+    # Where the cursor stands one space before a word, bash takes that one for the word at the cursor.
+    if [[ -z $cur && -n ${all[place]} && ${COMP_LINE:COMP_POINT:1} == ' ' ]]; then
+        all=("${all[@]:0:place}" '' "${all[@]:place}")
+    fi
 
     if ((place == 1)); then
         mapfile -t COMPREPLY < <(compgen -W "$words" -- "$cur")
@@ -49,9 +54,9 @@ _cidranoth() {
         # Options stand in front, each at most once; place becomes that of a word behind them.
         local known='--inline --every --max-file' given=' ' option n=2
         [[ $word == gen ]] || known+=' --max-script'
-        while ((n < COMP_CWORD)) && [[ ${COMP_WORDS[n]} == -* ]]; do
-            given+="${COMP_WORDS[n]} "
-            [[ ${COMP_WORDS[n]} == --inline ]] || ((n++))
+        while ((n < COMP_CWORD)) && [[ ${all[n]} == -* ]]; do
+            given+="${all[n]} "
+            [[ ${all[n]} == --inline ]] || ((n++))
             ((n++))
         done
         ((place = COMP_CWORD - n + 2))
@@ -68,14 +73,14 @@ _cidranoth() {
         ((place == 2)) && wanted=folder
         ;;
     check | show)
-        case ${COMP_WORDS[2]} in
+        case ${all[2]} in
         session) prefix=Session_ ;;
         tabs) prefix=Tabs_ ;;
         esac
         case $place in
         2) wanted=family ;;
         3) wanted=stamp ;;
-        4) wanted=folder named=${prefix:+$prefix${COMP_WORDS[3]}} ;;
+        4) wanted=folder named=${prefix:+$prefix${all[3]}} ;;
         esac
         ;;
     esac
@@ -89,7 +94,7 @@ _cidranoth() {
         mapfile -t COMPREPLY < <(_cidranoth_folders "$cur" "$named")
     elif [[ $wanted == stamp && -n $prefix ]]; then
         # The folder may be named already, behind the stamp.
-        local folders=(. Sessions sessions) folder=${COMP_WORDS[4]/#'~/'/$HOME/}
+        local folders=(. Sessions sessions) folder=${all[4]/#'~/'/$HOME/}
         [[ -z $folder || ! -d $folder ]] || folders=("$folder")
         compopt -o nosort 2>/dev/null
         mapfile -t COMPREPLY < <(compgen -W "$(_cidranoth_stamps "$prefix" "${folders[@]}")" -- "$cur")
