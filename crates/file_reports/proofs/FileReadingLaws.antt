@@ -1,5 +1,5 @@
 -- A file has just one reading, and by it the file is lawful or isn't.
-use Rattle.std.proofs.Common.{◌≡◌, ℕ, ◌+◌, ◌<◌, ◌≤◌, Bool, true, false, ◌||◌, List, [], ◌∷◌, length, take, drop, get_or, Result, Ok, Err, Contains, refl, sym, ap, ◌∙◌, subst, inl, inr, arith}
+use Rattle.std.proofs.Common.{◌≡◌, ◌↔◌, ℕ, ◌+◌, ◌<◌, ◌≤◌, Bool, IsTrue, true, false, ◌||◌, List, [], ◌∷◌, length, take, drop, get_or, Result, Ok, Err, Contains, refl, sym, ap, ◌∙◌, subst, inl, inr, arith}
 use Rattle.std.proofs.lemmas.Bool.{cases_lt, cases_Bool, both_ways}
 use Rattle.std.proofs.lemmas.List.{get_or-drop}
 use Rattle.std.proofs.lemmas.List.Elements.{Contains-append_cases, Contains-push_cases, Contains-append_left, Contains-append_right}
@@ -9,12 +9,17 @@ use Rattle.snss_frames.specs.Frame.{Frame, marker}
 use Rattle.snss_frames.specs.declared.header.Version.{Version}
 use Rattle.snss_frames.specs.declared.header.Version.TheVariants.{One, Three}
 use Rattle.snss_frames.specs.declared.header.HeaderFault.{HeaderFault}
+use Rattle.snss_frames.specs.Reading.{Reads}
 use Rattle.snss_frames.proofs.ReadingLaws as frames
+use Rattle.file_reading.specs.Heads.{head_of}
+use Rattle.file_reading.specs.declared.head.FileHead.TheVariants.{Known}
 use Rattle.file_rotation.specs.Recovery.{IsFile, IsMarked, IsLawful}
 use Rattle.file_rotation.specs.Choice.{IsLawfulAs}
 use Rattle.file_reports.specs.FileReading.{FileReading, TooShort, Foreign, Framed, IsReading}
 use Rattle.file_reports.specs.FileKinds.{is_marker, kind_of, is_lawful}
+use Rattle.file_reports.specs.declared.kind.FileKind.TheVariants as kind
 use Rattle.file_reports.proofs.KindLaws.{from_marker}
+use Rattle.file_reports.proofs.ReportLaws.{head_read}
 
 header_reading : (bytes : List ℕ) (header : Result Version HeaderFault) → ((k : ℕ) → get_or bytes k 0 < 256) → 8 ≤ length bytes → header_of (take 8 bytes) ≡ header → (reading : FileReading) × IsReading bytes reading
 header_reading bytes (Err fault) range long said = (Foreign fault, (long, said))
@@ -97,3 +102,19 @@ pub unlawful_reading : (bytes : List ℕ) (reading : FileReading) → IsReading 
 unlawful_reading bytes reading is h fs l =
     let same = one_reading bytes reading (Framed l.version fs l.file.rest) is (reading_of_lawful bytes fs l) in
     both_ways (is_lawful (kind_of reading)) h (ap (λ (x : FileReading). is_lawful (kind_of x)) same ∙ kind_lawful l.version fs l.file.rest l.marked)
+
+marked_alike : (marked : Bool) (fs : List Frame) → (IsTrue marked ↔ Contains fs marker) → marked ≡ list_any is_marker fs
+marked_alike true fs alike = sym (contains_marked fs (alike.0 refl))
+marked_alike false fs alike =
+    elim (cases_Bool (list_any is_marker fs)) [
+      | inl found ↦ absurd (let never = alike.1 (marked_contains fs found) in cc)
+      | inr none ↦ sym none
+    ]
+
+-- a file of version 3 is of the kind that its marker makes it
+pub marked_kind : (bytes : List ℕ) (reading : FileReading) (marked : Bool) → head_of bytes ≡ Known Three → IsReading bytes reading →
+    ((fs : List Frame) (rest : List ℕ) → Reads (drop 8 bytes) fs rest → (IsTrue marked ↔ Contains fs marker)) → kind.Three marked ≡ kind_of reading
+marked_kind bytes (TooShort n) marked known is alike = absurd (let both = sym known ∙ head_read bytes (TooShort n) is in cc)
+marked_kind bytes (Foreign fault) marked known is alike = absurd (let both = sym known ∙ head_read bytes (Foreign fault) is in cc)
+marked_kind bytes (Framed One fs rest) marked known is alike = absurd (let both = sym known ∙ head_read bytes (Framed One fs rest) is in cc)
+marked_kind bytes (Framed Three fs rest) marked known is alike = ap kind.Three (marked_alike marked fs (alike fs rest is.2))

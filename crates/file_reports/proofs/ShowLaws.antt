@@ -9,7 +9,7 @@ use Rattle.report_lines.proofs.ReportLaws.{begun, made, sent, stopped, goes_on}
 use Rattle.file_reports.specs.FileTexts.{last_line}
 use Rattle.file_reports.specs.Lines.{frame_line, frame_lines, ending_line}
 use Rattle.file_reports.proofs.WalkLaws.{Ahead, ahead_first, ahead_more, ahead_none, ends_at}
-use Rattle.file_reports.proofs.ReportLaws.{commands_text, adds_behind}
+use Rattle.file_reports.proofs.ReportLaws.{commands_text, adds_behind, adds_failed}
 
 -- behind a text the lines of the frames ahead make up those of all frames, behind what waited at the beginning
 abbrev pub Completes : Family → List ℕ → List ℕ → ℕ → List Frame → List Frame → Type 0
@@ -69,3 +69,11 @@ module _ (family : Family) (before now : Option (List ℕ)) (old waiting bytes :
       let done = ahead_none (Completes family old w.text at) bytes at none w.ahead all rest reads in
       let last = ends_at (ending_at at (drop at bytes)) at (drop at bytes) rest all refl done in
       adds_behind before now later old waiting new (frame_lines family 8 all) _ result (rw (completes_all family old w.text at all done.0) at w.underway) (rw last at adds)
+
+  pub walked_failed : {T E : Type 0} (later : Option (List ℕ)) (new : List ℕ) (result : Result T E) → IsErr result → begins_frame (drop at bytes) ≡ false → WrotePrefix now later (waiting ++ ending_line (ending_at at (drop at bytes))) →
+      (all : List Frame) (rest : List ℕ) → Reads (drop 8 bytes) all rest → Adds before later old new (commands_text family all rest) result
+  walked_failed later new result err none cut = walked_ended later new result none (adds_failed now later waiting new (ending_line (ending_at at (drop at bytes))) result err cut)
+
+  pub walked_done : (later : Option (List ℕ)) (new : List ℕ) → begins_frame (drop at bytes) ≡ false → IsUnderway now later new (waiting ++ ending_line (ending_at at (drop at bytes))) →
+      (all : List Frame) (rest : List ℕ) → Reads (drop 8 bytes) all rest → IsUnderway before later new (old ++ commands_text family all rest)
+  walked_done later new none adds all rest reads = walked_ended {T = Unit {0}} {E = Unit {0}} later new (Ok tt) none adds all rest reads

@@ -4,10 +4,12 @@ use Rattle.std.proofs.lemmas.Bool.{both_ways}
 use Rattle.std.proofs.lemmas.List.{length-append}
 use Rattle.std.specs.List.{flat_map}
 use Rattle.snss_frames.specs.Frame.{Frame, IsFrame, BeginsWith, frame_bytes, begins_frame}
+use Rattle.snss_frames.specs.Feed.{Feed}
 use Rattle.snss_frames.specs.Reading.{Reads, offset_after, ending_at}
 use Rattle.snss_frames.specs.declared.ending.Ending.{Ending}
 use Rattle.snss_frames.proofs.FrameLaws.{length-frame, begins_frame-frame, one_frame}
 use Rattle.snss_frames.proofs.ReadingLaws.{one_reading, reading_none}
+use Rattle.file_reading.specs.FrameReading.{EndsWith}
 use Rattle.file_rotation.proofs.WalkLaws.{behind_frame}
 
 -- of all frames of a file these stand from a place on, and so it is with them and all
@@ -70,3 +72,7 @@ module _ (P : List Frame → List Frame → Type 0) (bytes : List ℕ) (at : ℕ
 -- so the file ends as its bytes end there
 pub ends_at : {N : Type 0} (ending : Ending) (at : ℕ) (left rest : List ℕ) (all : List Frame) → ending ≡ ending_at at left → N × (left ≡ rest) × (at ≡ offset_after 8 all) → ending ≡ ending_at (offset_after 8 all) rest
 ends_at ending at left rest all said (_, same, place) = said ∙ ap (ending_at at) same ∙ ap (λ (x : ℕ). ending_at x rest) place
+
+-- how a reader says that a file ends, once none follows, is how its bytes end there
+pub ending_read : (file : List ℕ) (feed : Feed) (at : ℕ) (ending : Ending) → feed.at ≡ at → EndsWith file feed → ending ≡ ending_at feed.at feed.held → ending ≡ ending_at at (drop at file)
+ending_read file feed at ending same ends said = said ∙ ends.ending ∙ ap (λ (n : ℕ). ending_at n (drop n file)) same

@@ -1,5 +1,5 @@
 -- The kind of a file, in words.
-use Rattle.std.specs.Prelude.{ℕ, ◌/◌, ◌%◌, Bool, true, false, ◌==◌, ◌&&◌, List, [], ◌∷◌, ◌++◌, length, codes, Result, Ok, Err}
+use Rattle.std.specs.Prelude.{ℕ, ◌/◌, ◌%◌, Bool, true, false, ◌==◌, ◌&&◌, List, [], ◌∷◌, ◌++◌, length, codes}
 use Rattle.std.specs.List.{list_any}
 use Rattle.std.specs.Fmt.{decimal}
 use Rattle.shown_texts.specs.Shown.{hexadecimal_digit}
@@ -8,6 +8,8 @@ use Rattle.snss_frames.specs.declared.header.Version.{Version}
 use Rattle.snss_frames.specs.declared.header.Version.TheVariants.{One, Three}
 use Rattle.snss_frames.specs.declared.header.HeaderFault.{HeaderFault}
 use Rattle.snss_frames.specs.declared.header.HeaderFault.TheVariants.{BadSignature, Encrypted, UnknownVersion}
+use Rattle.file_reading.specs.declared.head.FileHead.{FileHead}
+use Rattle.file_reading.specs.declared.head.FileHead.TheVariants as head
 use Rattle.file_reports.specs.FileReading.{FileReading, TooShort, Foreign, Framed}
 use Rattle.file_reports.specs.declared.kind.FileKind.{FileKind}
 use Rattle.file_reports.specs.declared.kind.FileKind.TheVariants as kind
@@ -25,11 +27,11 @@ kind_of (TooShort n) = kind.Short n
 kind_of (Foreign fault) = kind.Foreign fault
 kind_of (Framed version frames rest) = version_kind version frames
 
--- the version that the header says, or what the file is where it says none
-abbrev pub header_of_file : FileReading → Result Version FileKind
-header_of_file (TooShort n) = Err (kind.Short n)
-header_of_file (Foreign fault) = Err (kind.Foreign fault)
-header_of_file (Framed version frames rest) = Ok version
+-- what the head of the file says
+abbrev pub head_of_file : FileReading → FileHead
+head_of_file (TooShort n) = head.Short n
+head_of_file (Foreign fault) = head.Foreign fault
+head_of_file (Framed version frames rest) = head.Known version
 
 -- A file that counts has version 1, or version 3 and the marker.
 abbrev pub is_lawful : FileKind → Bool
@@ -54,14 +56,18 @@ abbrev pub marked_words : Bool → List ℕ
 marked_words true = codes "v3 marked"
 marked_words false = codes "v3 unmarked"
 
+abbrev pub short_words : ℕ → List ℕ
+short_words length = codes "short " ++ decimal length
+
 abbrev pub kind_words : FileKind → List ℕ
-kind_words (kind.Short n) = codes "short " ++ decimal n
+kind_words (kind.Short n) = short_words n
 kind_words (kind.Foreign fault) = fault_words fault
 kind_words kind.One = codes "v1"
 kind_words (kind.Three marked) = marked_words marked
 
--- the header alone in words, which say nothing of the marker
-abbrev pub version_words : Result Version FileKind → List ℕ
-version_words (Ok One) = codes "v1"
-version_words (Ok Three) = codes "v3"
-version_words (Err k) = kind_words k
+-- the head alone in words, which say nothing of the marker
+abbrev pub head_words : FileHead → List ℕ
+head_words (head.Short n) = short_words n
+head_words (head.Foreign fault) = fault_words fault
+head_words (head.Known One) = codes "v1"
+head_words (head.Known Three) = codes "v3"

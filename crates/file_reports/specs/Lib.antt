@@ -1,3 +1,4 @@
+pub mod Faults
 pub mod FileReading
 pub mod Families
 pub mod FileKinds
@@ -7,3 +8,4 @@ pub mod FileTexts
 pub use Rattle.snss_frames.specs.Reading
 pub use Rattle.payload_words.specs.Words
 pub use Rattle.report_lines.specs.Reports
+pub use Rattle.session_disk.specs.Moments

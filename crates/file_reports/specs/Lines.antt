@@ -1,5 +1,5 @@
 -- The lines of reports on one file.
-use Rattle.std.specs.Prelude.{ℕ, ◌+◌, List, [], ◌∷◌, ◌++◌, length, codes, Option, None, Some, Result}
+use Rattle.std.specs.Prelude.{ℕ, ◌+◌, List, [], ◌∷◌, ◌++◌, length, codes, Option, None, Some}
 use Rattle.std.specs.Fmt.{decimal}
 use Rattle.payload_words.specs.FieldWords.{number_word}
 use Rattle.payload_words.specs.Words.{words}
@@ -7,18 +7,17 @@ use Rattle.session_disk.specs.declared.family.Family.{Family}
 use Rattle.snss_frames.specs.Frame.{Frame}
 use Rattle.snss_frames.specs.declared.ending.Ending.{Ending}
 use Rattle.snss_frames.specs.declared.ending.Ending.TheVariants.{Whole, CutSize, EmptyCommand, CutBody}
-use Rattle.snss_frames.specs.declared.header.Version.{Version}
+use Rattle.file_reading.specs.declared.head.FileHead.{FileHead}
 use Rattle.file_reports.specs.Families.{shape_of}
 use Rattle.file_reports.specs.FileReading.{FileReading}
-use Rattle.file_reports.specs.FileKinds.{header_of_file, version_words}
-use Rattle.file_reports.specs.declared.kind.FileKind.{FileKind}
+use Rattle.file_reports.specs.FileKinds.{head_of_file, head_words}
 use Rattle.file_reports.specs.declared.tally.Tally.{Tally}
 
-abbrev pub version_line : Result Version FileKind → List ℕ
-version_line header = codes "header " ++ (version_words header ++ codes "\n")
+abbrev pub head_line : FileHead → List ℕ
+head_line head = codes "header " ++ (head_words head ++ codes "\n")
 
 abbrev pub header_line : FileReading → List ℕ
-header_line reading = version_line (header_of_file reading)
+header_line reading = head_line (head_of_file reading)
 
 -- a frame that stands at an offset: its offset, its id, the length of its payload, its words
 unfoldable pub frame_line : Family → ℕ → Frame → List ℕ

@@ -1,63 +1,73 @@
 //! The report of what a file has: how many commands, how many of them are raw, where the marker stands, and how the
 //! file ends.
-ghost use Rattle.std.specs.Prelude.{◌≡◌, ◌≤◌, ◌++◌, List, ℕ, Option, length, drop, OnOk};
-ghost use Rattle.snss_frames.specs.Frame.{Frame};
-ghost use Rattle.snss_frames.specs.Reading.{Reads};
+ghost use Rattle.std.specs.Prelude.{◌≡◌, ◌<◌, ◌^◌, ◌++◌, IsSome, OnOk};
+ghost use Rattle.session_disk.specs.Moments.{bytes_at};
 ghost use Rattle.report_lines.specs.Reports.{Adds, ReportHasCause};
+ghost use Rattle.file_reports.specs.Faults.{FileReportHasCause};
 ghost use Rattle.file_reports.specs.FileReading.{FileReading, IsReading};
-ghost use Rattle.file_reports.specs.FileTexts.{check_text, last_line};
-ghost use Rattle.file_reports.specs.Lines.{tally_lines, marker_line};
-ghost use Rattle.file_reports.specs.Tallies.{tally};
+ghost use Rattle.file_reports.specs.FileTexts.{check_text};
+ghost use Rattle.file_reports.specs.Lines.{ending_line, tally_lines, marker_line};
 
 use crate::ending::send_ending;
-use crate::header::{send_header, version_of};
+use crate::fault::FileReportFault;
+use crate::head::send_head;
 use crate::tally::Tally;
+use file_reading::{FileHead, read_head};
 use payload_words::put_number;
 use report_lines::ReportFault;
-use session_disk::{Family, Sink};
-use std::alloc::AllocError;
+use session_disk::{Family, SessionDisk, Sink};
+use snss_frames::Ending;
+use std::alloc::{AllocError, Global};
 
 /// Reports what a file has: the line of its header, how many whole frames follow and how many of them are raw by the
 /// table of the family, the offset of the first marker, and how the file ends. A marker is counted as a frame, but is
 /// never raw. Of a file whose header isn't read it reports the header's line alone.
 ///
-/// The lines are made in `waiting`, behind what waits there already. They go out in whole pieces; what is left waits
-/// for the caller. It takes no other memory, and touches each frame once. A report stops where the sink fails, or for
-/// want of memory, and a prefix of it was written then.
-pub fn check<K: Sink>(
+/// The file is read once, through one buffer, whatever its size. The lines are made in `waiting`, behind what waits there
+/// already. They go out in whole pieces; what is left waits for the caller. A report stops where the disk or the sink
+/// fails, or for want of memory, and a prefix of it was written then.
+pub fn check<K: Sink, D: SessionDisk>(
+    alloc: Global,
     family: Family,
-    bytes: &[u8],
+    disk: &mut D,
+    stamp: u64,
     out: &mut K,
     waiting: &mut Vec<u8>,
-) -> Result<(), ReportFault>
-    ensures report { (reading : FileReading) → IsReading bytes.now reading →
+) -> Result<(), FileReportFault>
+    requires in_range { stamp < 2 ^ 63 }
+    requires stands { D.modelled → IsSome ((D.history disk.old).now.standing stamp) }
+    ensures report { D.modelled → (reading : FileReading) →
+        IsReading (bytes_at stamp (D.history disk.old).now) reading →
         Adds (K.written out.old) (K.written out.new) waiting.old.items waiting.new.items
         (check_text family reading) result }
-    ensures cause { ReportHasCause (K.faults out.old) (K.faults out.new) result }
+    ensures unchanged { D.history disk.new ≡ D.history disk.old }
+    ensures cause { FileReportHasCause (D.failed disk.old) (D.failed disk.new)
+        (K.faults out.old) (K.faults out.new) result }
 {
-    let header = version_of(bytes);
-    send_header(header, out, waiting)?;
-    if header.is_err() {
-        return Ok(());
+    let head = read_head(disk, stamp)?;
+    send_head(head, out, waiting)?;
+    match head {
+        FileHead::Short(_) | FileHead::Foreign(_) => Ok(()),
+        FileHead::Known(_) => {
+            let (tally, ending) = Tally::of(alloc, family, disk, stamp)?;
+            send_counts(&tally, ending, out, waiting)?;
+            Ok(())
+        }
     }
-    send_counts(family, bytes, out, waiting)
 }
 
 // The lines behind the header's.
 fn send_counts<K: Sink>(
-    family: Family,
-    bytes: &[u8],
+    tally: &Tally,
+    ending: Ending,
     out: &mut K,
     waiting: &mut Vec<u8>,
 ) -> Result<(), ReportFault>
-    requires { 8 ≤ length bytes.now }
-    ensures report { (frames : List Frame) (rest : List ℕ) → Reads (drop 8 bytes.now) frames rest →
-        Adds (K.written out.old) (K.written out.new) waiting.old.items waiting.new.items
-        (tally_lines (tally family frames) ++ last_line frames rest) result }
+    ensures report { Adds (K.written out.old) (K.written out.new) waiting.old.items waiting.new.items
+        (tally_lines tally.now ++ ending_line ending) result }
     ensures cause { ReportHasCause (K.faults out.old) (K.faults out.new) result }
 {
-    let (tally, ending) = Tally::of(family, bytes);
-    put_tally_lines(&tally, waiting)?;
+    put_tally_lines(tally, waiting)?;
     send_ending(ending, out, waiting)
 }
 

@@ -1,16 +1,16 @@
 //! The kind of a file: how its header reads, and whether it has the marker.
-ghost use Rattle.std.specs.Prelude.{◌≡◌, ◌≤◌, ◌++◌, List, ℕ, length, drop, OnOk};
-ghost use Rattle.std.specs.List.{list_any};
-ghost use Rattle.snss_frames.specs.Frame.{Frame};
-ghost use Rattle.snss_frames.specs.Reading.{Reads};
+ghost use Rattle.std.specs.Prelude.{◌≡◌, ◌<◌, ◌^◌, ◌++◌, IsSome, IfOk, OnOk};
+ghost use Rattle.session_disk.specs.Causes.{DiskHasCause};
+ghost use Rattle.session_disk.specs.Moments.{bytes_at};
 ghost use Rattle.file_reports.specs.FileReading.{FileReading, IsReading};
-ghost use Rattle.file_reports.specs.FileKinds.{is_marker, kind_of, is_lawful, kind_words, fault_words};
+ghost use Rattle.file_reports.specs.FileKinds.{kind_of, is_lawful, kind_words, short_words, fault_words};
 
-use crate::header::version_of;
 use crate::numbers::{put_decimal, put_hexadecimal};
-use file_rotation::{FIRST_FRAME, frame_at, is_marker};
+use file_reading::{FileHead, read_head};
+use file_rotation::is_marked;
+use session_disk::{DiskError, SessionDisk};
 use snss_frames::{HeaderFault, Version};
-use std::alloc::AllocError;
+use std::alloc::{AllocError, Global};
 
 /// What a file is, by its header and its frames.
 #[derive(Clone, Copy, Debug, PartialEq, Eq)]
@@ -26,16 +26,28 @@ pub enum FileKind {
 }
 
 impl FileKind {
-    /// The kind of a file with these bytes. It takes no memory, and touches each frame once.
-    pub fn of(bytes: &[u8]) -> FileKind
-        ensures { (reading : FileReading) → IsReading bytes.now reading → result ≡ kind_of reading }
+    /// The kind of a file. Its head is read, and of version 3 what stands up to the marker, through one buffer.
+    pub fn of<D: SessionDisk>(
+        alloc: Global,
+        disk: &mut D,
+        stamp: u64,
+    ) -> Result<FileKind, DiskError>
+        requires in_range { stamp < 2 ^ 63 }
+        requires stands { D.modelled → IsSome ((D.history disk.old).now.standing stamp) }
+        ensures kind { D.modelled → (reading : FileReading) →
+            IsReading (bytes_at stamp (D.history disk.old).now) reading →
+            IfOk result (λ kind. kind ≡ kind_of reading) }
+        ensures unchanged { D.history disk.new ≡ D.history disk.old }
+        ensures cause { DiskHasCause (D.failed disk.old) (D.failed disk.new) result }
     {
-        match version_of(bytes) {
-            Ok(Version::One) => FileKind::One,
-            Ok(Version::Three) => FileKind::Three {
-                marked: is_marked(bytes),
-            },
-            Err(kind) => kind,
+        match read_head(disk, stamp)? {
+            FileHead::Short(length) => Ok(FileKind::Short(length)),
+            FileHead::Foreign(fault) => Ok(FileKind::Foreign(fault)),
+            FileHead::Known(Version::One) => Ok(FileKind::One),
+            FileHead::Known(Version::Three) => {
+                let marked = is_marked(alloc, disk, stamp)?;
+                Ok(FileKind::Three { marked })
+            }
         }
     }
 
@@ -57,10 +69,7 @@ impl FileKind {
         ensures { OnOk result (out.new.items ≡ out.old.items ++ kind_words self) }
     {
         match self {
-            FileKind::Short(length) => {
-                out.extend_from_slice(b"short ")?;
-                put_decimal(length, out)?;
-            }
+            FileKind::Short(length) => put_short(length, out)?,
             FileKind::Foreign(fault) => put_fault(fault, out)?,
             FileKind::One => out.extend_from_slice(b"v1")?,
             FileKind::Three { marked: true } => out.extend_from_slice(b"v3 marked")?,
@@ -70,7 +79,15 @@ impl FileKind {
     }
 }
 
-fn put_fault(fault: HeaderFault, out: &mut Vec<u8>) -> Result<(), AllocError>
+pub(crate) fn put_short(length: u64, out: &mut Vec<u8>) -> Result<(), AllocError>
+    ensures { OnOk result (out.new.items ≡ out.old.items ++ short_words length) }
+{
+    out.extend_from_slice(b"short ")?;
+    put_decimal(length, out)?;
+    Ok(())
+}
+
+pub(crate) fn put_fault(fault: HeaderFault, out: &mut Vec<u8>) -> Result<(), AllocError>
     ensures { OnOk result (out.new.items ≡ out.old.items ++ fault_words fault) }
 {
     match fault {
@@ -88,20 +105,4 @@ fn put_fault(fault: HeaderFault, out: &mut Vec<u8>) -> Result<(), AllocError>
         }
     }
     Ok(())
-}
-
-// Whether the marker is among the whole frames of a file with a header.
-fn is_marked(bytes: &[u8]) -> bool
-    requires { 8 ≤ length bytes.now }
-    ensures { (frames : List Frame) (rest : List ℕ) → Reads (drop 8 bytes.now) frames rest →
-        result ≡ list_any is_marker frames }
-{
-    let mut at = FIRST_FRAME;
-    while let Some(frame) = frame_at(bytes, at) {
-        if is_marker(&frame) {
-            return true;
-        }
-        at += 3 + frame.payload.len();
-    }
-    false
 }

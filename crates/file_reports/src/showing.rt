@@ -1,72 +1,87 @@
 //! The report of a file's commands, each in a line, and of how the file ends.
-ghost use Rattle.std.specs.Prelude.{◌≡◌, ◌≤◌, ◌++◌, List, ℕ, length, drop, OnOk};
+ghost use Rattle.std.specs.Prelude.{◌≡◌, ◌<◌, ◌≤◌, ◌^◌, ◌++◌, List, ℕ, length, drop, IsSome, OnOk};
 ghost use Rattle.snss_frames.specs.Frame.{Frame};
 ghost use Rattle.snss_frames.specs.Reading.{Reads};
-ghost use Rattle.report_lines.specs.Reports.{Adds, ReportHasCause};
+ghost use Rattle.session_disk.specs.Moments.{bytes_at};
+ghost use Rattle.report_lines.specs.Reports.{Adds};
+ghost use Rattle.file_reports.specs.Faults.{FileReportHasCause};
 ghost use Rattle.file_reports.specs.FileReading.{FileReading, IsReading};
 ghost use Rattle.file_reports.specs.FileTexts.{show_text, last_line};
 ghost use Rattle.file_reports.specs.Lines.{frame_line, frame_lines};
 
 use crate::ending::send_ending;
-use crate::header::{send_header, version_of};
+use crate::fault::FileReportFault;
+use crate::head::send_head;
 use crate::numbers::put_decimal;
 use crate::tables::shape_of;
-use file_rotation::{FIRST_FRAME, frame_at};
+use file_reading::{FileHead, FrameReader, read_head};
 use payload_words::{put_number, put_words};
-use report_lines::{ReportFault, send_piece};
-use session_disk::{Family, Sink};
-use snss_frames::{FrameRef, ending_of};
+use report_lines::send_piece;
+use session_disk::{Family, SessionDisk, Sink};
+use snss_frames::FrameRef;
 use std::alloc::{AllocError, Global};
 
 /// Reports a file's commands: the line of its header, a line for each whole frame, and a line of how the file ends. A
 /// frame's line has the offset at which it stands, its id, the length of its payload in bytes, and the payload in
 /// words, by the table of the family. Of a file whose header isn't read it reports the header's line alone.
 ///
-/// The lines are made in `waiting`, behind what waits there already. They go out in whole pieces, each where a line has
-/// ended; what is left waits for the caller. It takes no other memory but for what a navigation's words take, and
-/// touches each frame once. A report stops where the sink fails, or for want of memory, and a prefix of it was written
-/// then.
-pub fn show<K: Sink>(
+/// The file is read once, through one buffer, whatever its size. The lines are made in `waiting`, behind what waits there
+/// already. They go out in whole pieces, each where a line has ended; what is left waits for the caller. It takes no other
+/// memory but for what a navigation's words take. A report stops where the disk or the sink fails, or for want of memory,
+/// and a prefix of it was written then.
+pub fn show<K: Sink, D: SessionDisk>(
     alloc: Global,
     family: Family,
-    bytes: &[u8],
+    disk: &mut D,
+    stamp: u64,
     out: &mut K,
     waiting: &mut Vec<u8>,
-) -> Result<(), ReportFault>
-    ensures report { (reading : FileReading) → IsReading bytes.now reading →
+) -> Result<(), FileReportFault>
+    requires in_range { stamp < 2 ^ 63 }
+    requires stands { D.modelled → IsSome ((D.history disk.old).now.standing stamp) }
+    ensures report { D.modelled → (reading : FileReading) →
+        IsReading (bytes_at stamp (D.history disk.old).now) reading →
         Adds (K.written out.old) (K.written out.new) waiting.old.items waiting.new.items
         (show_text family reading) result }
-    ensures cause { ReportHasCause (K.faults out.old) (K.faults out.new) result }
+    ensures unchanged { D.history disk.new ≡ D.history disk.old }
+    ensures cause { FileReportHasCause (D.failed disk.old) (D.failed disk.new)
+        (K.faults out.old) (K.faults out.new) result }
 {
-    let header = version_of(bytes);
-    send_header(header, out, waiting)?;
-    if header.is_err() {
-        return Ok(());
+    let head = read_head(disk, stamp)?;
+    send_head(head, out, waiting)?;
+    match head {
+        FileHead::Short(_) | FileHead::Foreign(_) => Ok(()),
+        FileHead::Known(_) => send_commands(alloc, family, disk, stamp, out, waiting),
     }
-    send_commands(alloc, family, bytes, out, waiting)
 }
 
 // The lines behind the header's.
-fn send_commands<K: Sink>(
+fn send_commands<K: Sink, D: SessionDisk>(
     alloc: Global,
     family: Family,
-    bytes: &[u8],
+    disk: &mut D,
+    stamp: u64,
     out: &mut K,
     waiting: &mut Vec<u8>,
-) -> Result<(), ReportFault>
-    requires { 8 ≤ length bytes.now }
-    ensures report { (frames : List Frame) (rest : List ℕ) → Reads (drop 8 bytes.now) frames rest →
+) -> Result<(), FileReportFault>
+    requires in_range { stamp < 2 ^ 63 }
+    requires stands { D.modelled → IsSome ((D.history disk.old).now.standing stamp) }
+    requires headed { D.modelled → 8 ≤ length (bytes_at stamp (D.history disk.old).now) }
+    ensures report { D.modelled → (frames : List Frame) (rest : List ℕ) →
+        Reads (drop 8 (bytes_at stamp (D.history disk.old).now)) frames rest →
         Adds (K.written out.old) (K.written out.new) waiting.old.items waiting.new.items
         (frame_lines family 8 frames ++ last_line frames rest) result }
-    ensures cause { ReportHasCause (K.faults out.old) (K.faults out.new) result }
+    ensures unchanged { D.history disk.new ≡ D.history disk.old }
+    ensures cause { FileReportHasCause (D.failed disk.old) (D.failed disk.new)
+        (K.faults out.old) (K.faults out.new) result }
 {
-    let mut at = FIRST_FRAME;
-    while let Some(frame) = frame_at(bytes, at) {
+    let mut reader = FrameReader::new(alloc, disk, stamp)?;
+    while let Some(frame) = reader.next(disk)? {
         put_frame_line(alloc, family, &frame, waiting)?;
         send_piece(out, waiting)?;
-        at += 3 + frame.payload.len();
     }
-    send_ending(ending_of(&bytes[at..], at as u64), out, waiting)
+    send_ending(reader.ending(), out, waiting)?;
+    Ok(())
 }
 
 #[tactic(auto, unfolding(crate::specs::Lines::frame_line))]

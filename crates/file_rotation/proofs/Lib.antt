@@ -1,4 +1,3 @@
-pub mod FillLaws
 pub mod WalkLaws
 pub mod FileLaws
 pub mod FoldLaws

@@ -1,6 +1,5 @@
 pub mod Faults
 pub mod Stamps
-pub mod Reading
 pub mod Recovery
 pub mod Choice
 pub mod Replay

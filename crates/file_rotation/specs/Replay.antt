@@ -1,10 +1,14 @@
 -- The frames of a file, folded from the start and counted, and how the file ends.
-use Rattle.std.specs.Prelude.{◌≡◌, ℕ, ◌-◌, ◌^◌, min, List, length, drop, Option, None, Some}
+use Rattle.std.specs.Prelude.{◌≡◌, ℕ, ◌-◌, ◌^◌, min, Bool, true, List, length, drop, Option, None, Some}
 use Rattle.machine_law.specs.Kind.{Kind}
 use Rattle.snss_frames.specs.Frame.{Frame}
 use Rattle.snss_frames.specs.Reading.{Reads, offset_after, ending_at}
 use Rattle.snss_frames.specs.declared.ending.Ending.{Ending}
+use Rattle.snss_frames.specs.declared.header.Version.{Version}
+use Rattle.snss_frames.specs.declared.header.Version.TheVariants.{One, Three}
 use Rattle.session_disk.specs.Images.{Image}
+use Rattle.file_rotation.specs.declared.choice.Chosen.{Chosen}
+use Rattle.file_rotation.specs.Choice.{IsLawfulAs, IsNewestLawful}
 use Rattle.file_rotation.specs.Recovery.{IsChosen, NoneLawful, FoldsTo}
 
 -- how many frames the chosen file has, as far as 64 bits count, and how it ends
@@ -27,3 +31,19 @@ pub record Replays {S C : Type 0} (kind : Kind S C) (bytes : List ℕ) (state : 
   pub folds : FoldsTo kind frames state
   pub counted : commands ≡ min (length frames) (2 ^ 64 - 1)
   pub ends : ending ≡ ending_at (offset_after 8 frames) rest
+
+-- whether a file of this version is lawful, with the marker or without it
+abbrev pub counts_as : Version → Bool → Bool
+counts_as One is_marked = true
+counts_as Three is_marked = is_marked
+
+-- a lawful file of this version, and what it comes to
+pub record ReplaysLawful {S C : Type 0} (kind : Kind S C) (bytes : List ℕ) (version : Version) (state : S) (commands : ℕ) (ending : Ending) : Type 0 where
+  pub lawful : IsLawfulAs bytes version
+  pub replays : Replays kind bytes state commands ending
+
+-- the chosen file, and what it comes to
+pub record ReplaysChosen {S C : Type 0} (kind : Kind S C) (image : Image) (chosen : Chosen) (state : S) (commands : ℕ) (ending : Ending) : Type 0 where
+  pub bytes : List ℕ
+  pub newest : IsNewestLawful image chosen.stamp bytes
+  pub file : ReplaysLawful kind bytes chosen.version state commands ending

@@ -9,9 +9,8 @@ ghost use Rattle.file_rotation.specs.Cleared.{cleared, kept_file, LeavesWithout}
 ghost use Rattle.file_rotation.specs.Clearing.{PartlyCleared, TakesOwn};
 
 use crate::fault::RotateFault;
-use crate::reading::fill;
+use file_reading::{FileHead, read_head};
 use session_disk::{DiskError, SessionDisk};
-use snss_frames::read_header;
 
 /// Removes each file with a smaller stamp that isn't foreign, the greatest first, then settles. After a refusal, want
 /// of memory among them, some of these files may be gone. It takes no memory of its own, and reads eight bytes of
@@ -71,7 +70,8 @@ fn is_foreign<D: SessionDisk>(disk: &mut D, stamp: u64) -> Result<bool, DiskErro
     ensures unchanged { D.history disk.new ≡ D.history disk.old }
     ensures cause { DiskHasCause (D.failed disk.old) (D.failed disk.new) result }
 {
-    let mut head = [0; 8];
-    let filled = fill(disk, stamp, &mut head)?;
-    Ok(filled == head.len() && read_header(&head).is_err())
+    match read_head(disk, stamp)? {
+        FileHead::Foreign(_) => Ok(true),
+        FileHead::Short(_) | FileHead::Known(_) => Ok(false),
+    }
 }

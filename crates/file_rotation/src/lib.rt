@@ -20,15 +20,11 @@
 mod choice;
 mod clearing;
 mod fault;
-mod frames;
-mod reading;
 mod recovery;
 mod stamp;
 
-pub use choice::{Chosen, choose};
+pub use choice::{Chosen, choose, is_marked};
 pub use clearing::clear_older;
 pub use fault::RotateFault;
-pub use frames::{FIRST_FRAME, frame_at, is_marker};
-pub use reading::read_whole;
 pub use recovery::{Recovered, recover};
 pub use stamp::{LastStamp, fresh_stamp};

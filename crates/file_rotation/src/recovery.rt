@@ -1,19 +1,22 @@
 //! Recovery: the state to which the files of a disk read.
-ghost use Rattle.std.specs.Prelude.{◌≡◌, ◌<◌, ◌≤◌, ◌^◌, length, None, IfOk, IfSome};
-ghost use Rattle.session_disk.specs.Moments.{IsNewestBelow};
+ghost use Rattle.std.specs.Prelude.{◌≡◌, ◌⊎◌, ◌<◌, ◌≤◌, ◌^◌, ◌↔◌, ℕ, List, length, drop, None, IsTrue, IsSome, IfOk, IfSome, MatchOption, Contains};
+ghost use Rattle.std.specs.Option.{ForSome};
+ghost use Rattle.snss_frames.specs.Frame.{Frame, marker};
+ghost use Rattle.snss_frames.specs.Reading.{Reads};
+ghost use Rattle.session_disk.specs.Moments.{IsNewestBelow, bytes_at};
 ghost use Rattle.session_disk.specs.Images.{as_it_reads};
 ghost use Rattle.file_rotation.specs.Faults.{RotateHasCause};
-ghost use Rattle.file_rotation.specs.Recovery.{Recovers};
+ghost use Rattle.file_rotation.specs.Recovery.{IsLawful, NoneLawful, Recovers};
 ghost use Rattle.file_rotation.specs.Choice.{IsChoice};
-ghost use Rattle.file_rotation.specs.Replay.{CountsFrames, Replays};
+ghost use Rattle.file_rotation.specs.Replay.{CountsFrames, Replays, ReplaysChosen, ReplaysLawful, counts_as};
 
-use crate::choice::{Chosen, newest_lawful};
+use crate::choice::Chosen;
 use crate::fault::RotateFault;
-use crate::frames::{FIRST_FRAME, frame_at};
+use file_reading::{FileHead, FrameReader, read_head};
 use machine_law::Machine;
 use session_disk::SessionDisk;
-use snss_frames::{Ending, ending_of};
-use std::alloc::{AllocError, Global};
+use snss_frames::{Ending, FrameRef, Version};
+use std::alloc::Global;
 
 /// What the files of a disk read to.
 #[derive(Drop)]
@@ -29,17 +32,25 @@ pub struct Recovered<M: Machine> {
     pub ending: Option<Ending>,
 }
 
-// What a lawful file reads to.
+// What the frames of a file come to.
 #[derive(Drop)]
 struct Replayed<M: Machine> {
     state: M::State,
     commands: u64,
     ending: Ending,
+    is_marked: bool,
 }
 
-/// Reads the files of a disk, whole and one at a time, from the newest on up to the chosen one, and folds its commands
-/// one by one. It needs memory for the state and for the longest of these files. A refusal is the disk's own failure or
-/// want of memory.
+// A lawful file and what it reads to.
+#[derive(Drop)]
+struct LawfulFile<M: Machine> {
+    chosen: Chosen,
+    replayed: Replayed<M>,
+}
+
+/// Reads the files of a disk from the newest on up to the chosen one, each once and in pieces, and folds the commands of
+/// each one by one; the state of a file that turns out to have no marker is dropped. It needs memory for one state and
+/// one buffer, whatever a file's size. A refusal is the disk's own failure or want of memory.
 pub fn recover<M: Machine, D: SessionDisk>(
     alloc: Global,
     disk: &mut D,
@@ -55,7 +66,7 @@ pub fn recover<M: Machine, D: SessionDisk>(
     ensures cause { RotateHasCause (D.failed disk.old) (D.failed disk.new) result }
 {
     let greatest = disk.newest_below(None)?;
-    let Some(file) = newest_lawful(alloc, disk, greatest)? else {
+    let Some(file) = newest_lawful::<M, D>(alloc, disk, greatest)? else {
         return Ok(Recovered {
             state: M::start(alloc)?,
             chosen: None,
@@ -64,38 +75,126 @@ pub fn recover<M: Machine, D: SessionDisk>(
             ending: None,
         });
     };
+    let LawfulFile { chosen, replayed } = file;
     let Replayed {
         state,
         commands,
         ending,
-    } = replay::<M>(alloc, &file.bytes)?;
+        ..
+    } = replayed;
     Ok(Recovered {
         state,
-        chosen: Some(file.chosen),
+        chosen: Some(chosen),
         greatest,
         commands,
         ending: Some(ending),
     })
 }
 
-// Folds all commands of a file from the start.
-fn replay<M: Machine>(alloc: Global, bytes: &[u8]) -> Result<Replayed<M>, AllocError>
-    requires { 8 ≤ length bytes.now }
-    ensures { IfOk result (λ r. Replays M.kind bytes.now r.state r.commands r.ending) }
+// The newest lawful file, given the newest of all, and what it reads to.
+fn newest_lawful<M: Machine, D: SessionDisk>(
+    alloc: Global,
+    disk: &mut D,
+    newest: Option<u64>,
+) -> Result<Option<LawfulFile<M>>, RotateFault>
+    requires in_range { ForSome newest (λ stamp. stamp < 2 ^ 63) }
+    requires newest { D.modelled → IsNewestBelow (D.history disk.old).now.standing None newest }
+    ensures in_range { IfOk result (λ found. IfSome found (λ file. file.chosen.stamp < 2 ^ 63)) }
+    ensures found { D.modelled → IfOk result (λ found. MatchOption found
+        (NoneLawful (as_it_reads (D.history disk.old).now))
+        (λ file. ReplaysChosen M.kind (as_it_reads (D.history disk.old).now) file.chosen
+        file.replayed.state file.replayed.commands file.replayed.ending)) }
+    ensures unchanged { D.history disk.new ≡ D.history disk.old }
+    ensures cause { RotateHasCause (D.failed disk.old) (D.failed disk.new) result }
+{
+    let mut next = newest;
+    while let Some(stamp) = next {
+        if let Some(file) = replay_lawful::<M, D>(alloc, disk, stamp)? {
+            return Ok(Some(file));
+        }
+        next = disk.newest_below(Some(stamp))?;
+    }
+    Ok(None)
+}
+
+// What a file reads to, and `None` exactly for a file that isn't lawful.
+fn replay_lawful<M: Machine, D: SessionDisk>(
+    alloc: Global,
+    disk: &mut D,
+    stamp: u64,
+) -> Result<Option<LawfulFile<M>>, RotateFault>
+    requires in_range { stamp < 2 ^ 63 }
+    requires stands { D.modelled → IsSome ((D.history disk.old).now.standing stamp) }
+    ensures stamp { IfOk result (λ found. IfSome found (λ file. file.chosen.stamp ≡ stamp)) }
+    ensures found { D.modelled → IfOk result (λ found. MatchOption found
+        ((frames : List Frame) → IsLawful (bytes_at stamp (D.history disk.old).now) frames → ⊥)
+        (λ file. ReplaysLawful M.kind (bytes_at stamp (D.history disk.old).now) file.chosen.version
+        file.replayed.state file.replayed.commands file.replayed.ending)) }
+    ensures unchanged { D.history disk.new ≡ D.history disk.old }
+    ensures cause { RotateHasCause (D.failed disk.old) (D.failed disk.new) result }
+{
+    let FileHead::Known(version) = read_head(disk, stamp)? else {
+        return Ok(None);
+    };
+    let replayed = replay::<M, D>(alloc, disk, stamp)?;
+    if !is_lawful(version, replayed.is_marked) {
+        return Ok(None);
+    }
+    Ok(Some(LawfulFile {
+        chosen: Chosen { stamp, version },
+        replayed,
+    }))
+}
+
+// Whether a file of this version is lawful, with the marker or without it.
+fn is_lawful(version: Version, is_marked: bool) -> bool
+    ensures { result ≡ counts_as version is_marked }
+{
+    match version {
+        Version::One => true,
+        Version::Three => is_marked,
+    }
+}
+
+// Folds all commands of a file with a header, from the start.
+fn replay<M: Machine, D: SessionDisk>(
+    alloc: Global,
+    disk: &mut D,
+    stamp: u64,
+) -> Result<Replayed<M>, RotateFault>
+    requires in_range { stamp < 2 ^ 63 }
+    requires stands { D.modelled → IsSome ((D.history disk.old).now.standing stamp) }
+    requires headed { D.modelled → 8 ≤ length (bytes_at stamp (D.history disk.old).now) }
+    ensures replays { D.modelled → IfOk result (λ r.
+        Replays M.kind (bytes_at stamp (D.history disk.old).now) r.state r.commands r.ending) }
+    ensures marked { D.modelled → IfOk result (λ r. (frames : List Frame) (rest : List ℕ) →
+        Reads (drop 8 (bytes_at stamp (D.history disk.old).now)) frames rest →
+        (IsTrue r.is_marked ↔ Contains frames marker)) }
+    ensures unchanged { D.history disk.new ≡ D.history disk.old }
+    ensures cause { RotateHasCause (D.failed disk.old) (D.failed disk.new) result }
 {
     let mut state = M::start(alloc)?;
     let mut commands: u64 = 0;
-    let mut at = FIRST_FRAME;
-    while let Some(frame) = frame_at(bytes, at) {
+    let mut is_marked = false;
+    let mut reader = FrameReader::new(alloc, disk, stamp)?;
+    while let Some(frame) = reader.next(disk)? {
+        is_marked = any_marker(is_marked, &frame);
         let command = M::read(alloc, frame.id, frame.payload)?;
         M::apply(&mut state, &command)?;
         commands = commands.saturating_add(1);
-        at += 3 + frame.payload.len();
     }
-    let ending = ending_of(&bytes[at..], at as u64);
     Ok(Replayed {
         state,
         commands,
-        ending,
+        ending: reader.ending(),
+        is_marked,
     })
+}
+
+// Whether a frame or one before it is the marker.
+fn any_marker(is_marked: bool, frame: &FrameRef) -> bool
+    ensures { IsTrue result ↔ (IsTrue is_marked ⊎
+        (record { id = frame.now.id; payload = frame.now.payload.now } ≡ marker)) }
+{
+    is_marked || frame.is_marker()
 }

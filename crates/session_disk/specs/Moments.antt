@@ -1,5 +1,5 @@
 -- A disk of session files at one moment, and what each step of a call makes of it.
-use Rattle.std.specs.Prelude.{◌≡◌, ℕ, ◌+◌, ◌<◌, ◌≤◌, max, Bool, true, false, if◌then◌else◌, ◌==◌, List, [], ◌∷◌, ◌++◌, length, take, drop, Option, Some, None, IsSome, option_map}
+use Rattle.std.specs.Prelude.{◌≡◌, ℕ, ◌+◌, ◌<◌, ◌≤◌, max, Bool, true, false, if◌then◌else◌, ◌==◌, List, [], ◌∷◌, ◌++◌, length, take, drop, get_or, Option, Some, None, IsSome, option_map}
 
 -- a file that stands: how many of its bytes a crash keeps, and whether a crash keeps its name
 pub record Standing : Type 0 where
@@ -87,6 +87,10 @@ bytes_of (Some file) = file.bytes
 -- the bytes of the file under a stamp, none where there is no file
 abbrev pub bytes_at : ℕ → Moment → List ℕ
 bytes_at stamp m = bytes_of (m.standing stamp)
+
+-- each number is a byte
+abbrev pub IsBytes : List ℕ → Type 0
+IsBytes bytes = (k : ℕ) → get_or bytes k 0 < 256
 
 -- n bytes of the file from an offset on are at the start of the buffer, and none only at the file's end or
 -- for a buffer without room

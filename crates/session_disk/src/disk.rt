@@ -2,7 +2,7 @@
 ghost use Rattle.std.specs.Prelude.{◌≡◌, ℕ, ◌<◌, ◌≤◌, ◌^◌, length, take, IfOk, IfSome, IsSome, IsNone, IsErrOf};
 ghost use Rattle.session_disk.specs.declared.failure.DiskError.TheVariants.{Failed};
 ghost use Rattle.session_disk.specs.Causes.{DiskHasCause};
-ghost use Rattle.session_disk.specs.Moments.{Moment, after_create, after_append, after_sync, after_remove, after_settle, after_tell, bytes_at, IsReadAt, IsNewestBelow};
+ghost use Rattle.session_disk.specs.Moments.{Moment, after_create, after_append, after_sync, after_remove, after_settle, after_tell, bytes_at, IsBytes, IsReadAt, IsNewestBelow};
 ghost use Rattle.session_disk.specs.Histories.{History, Changes};
 
 use crate::failure::DiskError;
@@ -52,6 +52,7 @@ pub trait SessionDisk: Drop {
         ensures bound { IfOk result (λ n. n ≤ length into.old) }
         ensures bytes { modelled →
             IfOk result (λ n. IsReadAt (bytes_at stamp (history self.old).now) offset n into.new) }
+        ensures range { modelled → IfOk result (λ _. IsBytes (bytes_at stamp (history self.old).now)) }
         ensures unchanged { history self.new ≡ history self.old }
         ensures cause { DiskHasCause (failed self.old) (failed self.new) result };
 

@@ -56,7 +56,8 @@ begins_frame-frame f more h =
     let own = length-frame f.id f.payload in
     begins_frame_from (frame_bytes f ++ more) (omega arith) (omega arith)
 
-size_of-take : (n : ℕ) (bytes : List ℕ) → 2 ≤ n → size_of (take n bytes) ≡ size_of bytes
+-- the size stands in the first two bytes
+pub size_of-take : (n : ℕ) (bytes : List ℕ) → 2 ≤ n → size_of (take n bytes) ≡ size_of bytes
 unfolding size_of
 size_of-take n bytes h = ap (from_le_bytes w16) (take-take 2 n bytes h)
 

@@ -1,3 +1,5 @@
 pub mod FrameLaws
 pub mod ReadingLaws
 pub mod HeaderLaws
+pub mod FeedLaws
+pub mod ChunkingLaws

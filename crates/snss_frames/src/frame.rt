@@ -54,12 +54,25 @@ pub struct FrameRef<'a> {
     pub payload: &'a [u8],
 }
 
+impl FrameRef<'_> {
+    ghost use Rattle.std.specs.Prelude.{◌≡◌, ◌↔◌, IsTrue};
+    ghost use Rattle.snss_frames.specs.Frame.{marker};
+
+    /// Whether this is the initial-state marker: the id 255 without a payload.
+    pub fn is_marker(&self) -> bool
+        ensures { IsTrue result ↔ (record { id = self.now.id; payload = self.now.payload.now } ≡ marker) }
+    {
+        self.id == 255 && self.payload.is_empty()
+    }
+}
+
 /// The whole frame that `rest` begins with, and `None` exactly where it begins with none: where the size is
 /// missing, 0 or counts more bytes than are there. `at` is the offset of `rest` in the file. It takes no memory.
 pub fn first_frame(rest: &[u8], at: u64) -> Option<FrameRef<'_>>
     ensures exactly { is_some result ≡ begins_frame rest.now }
     ensures first { IfSome result (λ f. BeginsWith rest.now (record { id = f.id; payload = f.payload.now })) }
     ensures offset { IfSome result (λ f. f.at ≡ at) }
+    ensures within { IfSome result (λ f. 3 + length f.payload.now ≤ length rest.now) }
 {
     let [low, high, id, body @ ..] = rest else {
         return None;

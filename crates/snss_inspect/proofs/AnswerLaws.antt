@@ -1,5 +1,5 @@
 -- From what a report added to what is answered, and what that comes of.
-use Rattle.std.proofs.Common.{◌≡◌, ℕ, List, [], ◌++◌, Option, None, Some, Result, Err, IfErr, refl, sym, ap, ◌∙◌, subst, inl, inr}
+use Rattle.std.proofs.Common.{◌≡◌, ℕ, List, [], ◌++◌, Option, None, Result, Err, IfErr, refl, sym, ap, ◌∙◌, subst, inl, inr}
 use Rattle.std.proofs.lemmas.Result.{IfErr-weaker}
 use Rattle.session_disk.specs.declared.family.Family.{Family}
 use Rattle.session_disk.specs.declared.family.Family.TheVariants.{Session, Tabs}
@@ -21,13 +21,11 @@ use Rattle.inspect_words.specs.declared.order.StateReport.{StateReport}
 use Rattle.report_lines.specs.Reports.{IsUnderway, WroteAll, WrotePrefix}
 use Rattle.report_lines.proofs.ReportLaws.{begun, stopped, ended, none_waits, adds_more, adds_stopped, adds_first}
 use Rattle.report_lines.proofs.WritingLaws.{reported}
-use Rattle.file_reports.specs.FileReading.{FileReading, IsReading}
-use Rattle.inspect_words.specs.declared.order.FileReport.{FileReport}
 use Rattle.inspect_words.specs.declared.status.InspectStatus.{InspectStatus}
 use Rattle.inspect_words.specs.declared.status.InspectStatus.TheVariants.{Done, Usage, NoStamp, Disk, Write, Memory}
 use Rattle.inspect_words.specs.Outcome.{usage_line}
 use Rattle.snss_inspect.specs.Listings.{ListedFile, AreListed, file_lines}
-use Rattle.snss_inspect.specs.Verdicts.{Verdict, Images, IsListVerdict, IsStateVerdict, IsFileVerdict, file_text, state_text, usage}
+use Rattle.snss_inspect.specs.Verdicts.{Verdict, Images, IsListVerdict, IsStateVerdict, state_text, usage}
 use Rattle.snss_inspect.specs.Answers.{Answers, Ends, StopsBy, failed}
 
 -- all of the text was written
@@ -88,13 +86,6 @@ module _ {D : Type 0} (count : D → ℕ) (sink_failed : Type 0) where
       weaker (Disk family) stops = rw stops.0 stops.1
       weaker Write stops = stops
       weaker Memory stops = stops
-
--- a report on one file was stopped
-pub file_stopped : (report : FileReport) (family : Family) (stamp : ℕ) (bytes : List ℕ) (found : Option (List ℕ)) (v : Verdict) (before now : Option (List ℕ)) (old : List ℕ) → found ≡ Some bytes →
-    ((reading : FileReading) → IsReading bytes reading → WrotePrefix before now (old ++ file_text report family reading)) → IsFileVerdict report family stamp found v → WrotePrefix before now (old ++ v.text)
-file_stopped report family stamp bytes found v before now old e cut is =
-    let there = subst (λ (f : Option (List ℕ)). IsFileVerdict report family stamp f v) e is in
-    rw (ap (λ (w : Verdict). w.text) there.2) (cut there.0 there.1)
 
 -- A listing of both families, the session's first.
 module _ (images : Images) (v : Verdict) (before now : Option (List ℕ)) (old mid : List ℕ) (is : IsListVerdict images v) where

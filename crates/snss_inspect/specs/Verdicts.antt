@@ -1,8 +1,9 @@
 -- What an inspection comes to in which nothing fails: the answer, and all that is written.
-use Rattle.std.specs.Prelude.{◌≡◌, ℕ, List, ◌++◌, Option, None, Some}
+use Rattle.std.specs.Prelude.{◌≡◌, ℕ, Bool, true, false, List, ◌++◌, Option, None, Some, IsSome}
 use Rattle.session_disk.specs.declared.family.Family.{Family}
 use Rattle.session_disk.specs.declared.family.Family.TheVariants.{Session, Tabs}
 use Rattle.session_disk.specs.Histories.{History}
+use Rattle.session_disk.specs.Moments.{Moment, bytes_at}
 use Rattle.session_disk.specs.Images.{Image, as_it_reads}
 use Rattle.file_rotation.specs.Recovery.{Recovers}
 use Rattle.window_state.specs.declared.view_parts.View.{View}
@@ -59,6 +60,11 @@ abbrev pub IsStateVerdict : StateReport → Images → Verdict → Type 0
 IsStateVerdict report images v =
     (s : State) × (c : ClosedState) × Recovers session_kind (images Session) s × Recovers tabs_kind (images Tabs) c
     × (v ≡ record { status = Done; text = state_text report (view s) (shown c) })
+
+-- whether a file stands under a stamp, with its bytes
+abbrev pub IsThere : Bool → Moment → ℕ → Type 0
+IsThere true m stamp = IsSome (m.standing stamp) × (as_it_reads m stamp ≡ Some (bytes_at stamp m))
+IsThere false m stamp = as_it_reads m stamp ≡ None
 
 -- the bytes that stand under the stamp
 abbrev pub IsFileVerdict : FileReport → Family → ℕ → Option (List ℕ) → Verdict → Type 0

@@ -21,8 +21,8 @@ use std::alloc::Global;
 /// Writes the report that the words ask for on the files of both disks, and hands the disks back. It changes no file. A
 /// damaged or foreign file is reported and is no refusal.
 ///
-/// It needs memory for the longest file and the states that the files read to, and for a report of any length one
-/// buffer.
+/// Files of any size are read through one buffer, and a report of any length goes through another. Beside them it needs
+/// memory for the states that the files read to.
 ///
 /// The clause on what is written holds where the disks are modelled; that on words that aren't in the grammar always.
 pub fn inspect<K: Sink, D: SessionDisk>(

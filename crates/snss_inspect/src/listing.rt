@@ -1,5 +1,5 @@
 //! The files of a family in a list, from the newest down.
-ghost use Rattle.std.specs.Prelude.{◌≡◌, ◌++◌, ◌||◌, ◌<◌, ◌≤◌, ◌^◌, List, length, Option, None, OnOk, IfErr};
+ghost use Rattle.std.specs.Prelude.{◌≡◌, ◌++◌, ◌||◌, ◌<◌, ◌≤◌, ◌^◌, List, length, Option, None, IsSome, OnOk, IfOk, IfErr};
 ghost use Rattle.session_disk.specs.Images.{as_it_reads};
 ghost use Rattle.file_rotation.specs.Choice.{IsChoice};
 ghost use Rattle.file_rotation.specs.declared.choice.Chosen.{Chosen};
@@ -9,19 +9,20 @@ ghost use Rattle.snss_inspect.specs.Answers.{StopsBy, failed};
 ghost use Rattle.snss_inspect.specs.Verdicts.{IsListVerdict, Verdict, images};
 ghost use Rattle.file_reports.specs.FileReading.{FileReading, IsReading};
 ghost use Rattle.file_reports.specs.FileKinds.{is_lawful, kind_of};
-ghost use Rattle.snss_inspect.specs.Stops.{HaltHasCause};
+ghost use Rattle.file_reports.specs.Faults.{FileReportHasCause};
+ghost use Rattle.session_disk.specs.Causes.{DiskHasCause};
+ghost use Rattle.session_disk.specs.Moments.{bytes_at};
 ghost use Rattle.snss_inspect.specs.Listings.{AreListed, ListedFile, file_lines, is_first, line_end};
 
-use crate::stops::{Halt, halt_status};
-use file_reports::FileKind;
-use file_rotation::read_whole;
+use crate::stops::file_status;
+use file_reports::{FileKind, FileReportFault};
 use inspect_words::InspectStatus;
 use payload_words::put_number;
 use report_lines::send_piece;
-use session_disk::{Family, SessionDisk, Sink, file_name};
+use session_disk::{DiskError, Family, SessionDisk, Sink, file_name};
 use std::alloc::{AllocError, Global};
 
-/// Adds the files of both families in a list, the session's first. It needs memory for the longest file.
+/// Adds the files of both families in a list, the session's first. Files of any size are read through one buffer.
 pub(crate) fn put_all_files<K: Sink, D: SessionDisk>(
     alloc: Global,
     session: &mut D,
@@ -39,36 +40,36 @@ pub(crate) fn put_all_files<K: Sink, D: SessionDisk>(
 {
     match put_files(alloc, Family::Session, session, out, waiting) {
         Ok(()) => {}
-        Err(halt) => return Err(halt_status(Family::Session, halt)),
+        Err(fault) => return Err(file_status(Family::Session, fault)),
     }
     match put_files(alloc, Family::Tabs, tabs, out, waiting) {
         Ok(()) => Ok(()),
-        Err(halt) => Err(halt_status(Family::Tabs, halt)),
+        Err(fault) => Err(file_status(Family::Tabs, fault)),
     }
 }
 
 // Adds a line for each file of a family, from the newest down: its name, its length and its kind; `chosen` stands at the
-// end of the line of the file that counts, the newest lawful one. It reads each file whole, one at a time.
+// end of the line of the file that counts, the newest lawful one. Each file is read up to its marker.
 fn put_files<K: Sink, D: SessionDisk>(
     alloc: Global,
     family: Family,
     disk: &mut D,
     out: &mut K,
     waiting: &mut Vec<u8>,
-) -> Result<(), Halt>
+) -> Result<(), FileReportFault>
     ensures report { D.modelled → (files : List ListedFile) (chosen : Option Chosen) →
         AreListed (as_it_reads (D.history disk.old).now) None files →
         IsChoice (as_it_reads (D.history disk.old).now) chosen →
         Adds (K.written out.old) (K.written out.new) waiting.old.items waiting.new.items
         (file_lines family chosen files) result }
     ensures unchanged { D.history disk.new ≡ D.history disk.old }
-    ensures cause { HaltHasCause (D.failed disk.old) (D.failed disk.new) (K.faults out.old) (K.faults out.new) result }
+    ensures cause { FileReportHasCause (D.failed disk.old) (D.failed disk.new)
+        (K.faults out.old) (K.faults out.new) result }
 {
     let mut has_lawful = false;
     let mut next = disk.newest_below(None)?;
     while let Some(stamp) = next {
-        let bytes = read_whole(alloc, disk, stamp)?;
-        let line = FileLine::of(family, stamp, &bytes, has_lawful);
+        let line = FileLine::of(alloc, family, disk, stamp, has_lawful)?;
         line.put(alloc, waiting)?;
         send_piece(out, waiting)?;
         has_lawful = any_lawful(has_lawful, line.kind);
@@ -89,7 +90,7 @@ fn any_lawful(has_newer: bool, kind: FileKind) -> bool
 struct FileLine {
     family: Family,
     stamp: u64,
-    length: usize,
+    length: u64,
     kind: FileKind,
     is_chosen: bool,
 }
@@ -97,25 +98,39 @@ struct FileLine {
 impl FileLine {
     ghost use Rattle.snss_inspect.specs.Listings.{line_text};
 
-    // The line of a file with these bytes, where a newer one is lawful or none is.
-    fn of(family: Family, stamp: u64, bytes: &[u8], has_newer: bool) -> FileLine
-        ensures line { result ≡ record {
+    // The line of a file, where a newer one is lawful or none is.
+    fn of<D: SessionDisk>(
+        alloc: Global,
+        family: Family,
+        disk: &mut D,
+        stamp: u64,
+        has_newer: bool,
+    ) -> Result<FileLine, DiskError>
+        requires in_range { stamp < 2 ^ 63 }
+        requires stands { D.modelled → IsSome ((D.history disk.old).now.standing stamp) }
+        ensures stamp { IfOk result (λ line. line.stamp ≡ stamp) }
+        ensures line { D.modelled → IfOk result (λ line. line ≡ record {
           family = family;
           stamp = stamp;
-          length = length bytes.now;
-          kind = result.kind;
-          is_chosen = is_first has_newer result.kind;
-        } }
-        ensures kind { (reading : FileReading) → IsReading bytes.now reading → result.kind ≡ kind_of reading }
+          length = length (bytes_at stamp (D.history disk.old).now);
+          kind = line.kind;
+          is_chosen = is_first has_newer line.kind;
+        }) }
+        ensures kind { D.modelled → (reading : FileReading) →
+            IsReading (bytes_at stamp (D.history disk.old).now) reading →
+            IfOk result (λ line. line.kind ≡ kind_of reading) }
+        ensures unchanged { D.history disk.new ≡ D.history disk.old }
+        ensures cause { DiskHasCause (D.failed disk.old) (D.failed disk.new) result }
     {
-        let kind = FileKind::of(bytes);
-        FileLine {
+        let length = disk.length(stamp)?;
+        let kind = FileKind::of(alloc, disk, stamp)?;
+        Ok(FileLine {
             family,
             stamp,
-            length: bytes.len(),
+            length,
             kind,
             is_chosen: !has_newer && kind.is_lawful(),
-        }
+        })
     }
 
     #[tactic(auto, unfolding(crate::specs::Listings::line_text))]
@@ -125,7 +140,7 @@ impl FileLine {
     {
         let name = file_name(alloc, self.family, self.stamp)?;
         out.extend_from_slice(name.as_bytes())?;
-        put_number(self.length as u64, out)?;
+        put_number(self.length, out)?;
         out.extend_from_slice(b" ")?;
         self.kind.put(out)?;
         put_line_end(self.is_chosen, out)?;

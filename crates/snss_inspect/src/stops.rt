@@ -1,68 +1,31 @@
 //! What stops an inspection before its end, and the answer that follows.
 ghost use Rattle.std.specs.Prelude.{◌≡◌};
-ghost use Rattle.snss_inspect.specs.declared.stops.Halt.TheVariants.{Memory, Write};
-ghost use Rattle.snss_inspect.specs.Stops.{halt_status, of_disk, of_rotation, report_status, rotate_status};
+ghost use Rattle.snss_inspect.specs.Stops.{disk_status, file_status, report_status, rotate_status};
 
+use file_reports::FileReportFault;
 use file_rotation::RotateFault;
 use inspect_words::InspectStatus;
 use report_lines::ReportFault;
-use session_disk::{DiskError, Failed, Family};
-use std::alloc::AllocError;
+use session_disk::{DiskError, Family};
 
-/// What stops a report on the files of one disk: the disk failed, the sink failed, or memory ran out.
-#[derive(Clone, Copy, Debug, PartialEq, Eq)]
-pub(crate) enum Halt {
-    Disk,
-    Write,
-    Memory,
-}
-
-impl From<DiskError> for Halt {
-    ghost from_gives = { λ error halt. halt ≡ of_disk error };
-
-    fn from(error: DiskError) -> Self {
-        match error {
-            DiskError::Failed => Halt::Disk,
-            DiskError::Memory => Halt::Memory,
-        }
-    }
-}
-
-impl From<RotateFault> for Halt {
-    ghost from_gives = { λ fault halt. halt ≡ of_rotation fault };
-
-    fn from(fault: RotateFault) -> Self {
-        match fault {
-            RotateFault::Disk => Halt::Disk,
-            RotateFault::Memory => Halt::Memory,
-        }
-    }
-}
-
-impl From<Failed> for Halt {
-    ghost from_gives = { λ _ halt. halt ≡ Write };
-
-    fn from(_: Failed) -> Self {
-        Halt::Write
-    }
-}
-
-impl From<AllocError> for Halt {
-    ghost from_gives = { λ _ halt. halt ≡ Memory };
-
-    fn from(_: AllocError) -> Self {
-        Halt::Memory
+/// The answer where a call of this family's disk was refused.
+pub(crate) fn disk_status(family: Family, error: DiskError) -> InspectStatus
+    ensures { result ≡ disk_status family error }
+{
+    match error {
+        DiskError::Failed => InspectStatus::Disk(family),
+        DiskError::Memory => InspectStatus::Memory,
     }
 }
 
 /// The answer where a report on the files of this family's disk was stopped.
-pub(crate) fn halt_status(family: Family, halt: Halt) -> InspectStatus
-    ensures { result ≡ halt_status family halt }
+pub(crate) fn file_status(family: Family, fault: FileReportFault) -> InspectStatus
+    ensures { result ≡ file_status family fault }
 {
-    match halt {
-        Halt::Disk => InspectStatus::Disk(family),
-        Halt::Write => InspectStatus::Write,
-        Halt::Memory => InspectStatus::Memory,
+    match fault {
+        FileReportFault::Disk => InspectStatus::Disk(family),
+        FileReportFault::Write => InspectStatus::Write,
+        FileReportFault::Memory => InspectStatus::Memory,
     }
 }
 

@@ -4,7 +4,8 @@ use crate::payload::{joined, numbered};
 use crate::text::{put_bytes, put_count};
 use crate::words::Words;
 use snss_frames::{
-    Ending, HeaderFault, Version, ending_of, first_frame, read_header, write_frame, write_header,
+    Ending, FEED_ROOM, FrameFeed, HeaderFault, PAYLOAD_MAX, Version, read_header, write_frame,
+    write_header,
 };
 use std::alloc::{AllocError, Global};
 
@@ -70,53 +71,116 @@ pub(crate) fn frames(alloc: Global, lines: &[Words<'_>]) -> Result<String, CaseF
     Ok(out)
 }
 
-/// How many whole frames each prefix of the bytes has, the shortest first, and its ending.
-pub(crate) fn cuts(alloc: Global, lines: &[Words<'_>]) -> Result<String, CaseFault> {
+/// How many whole frames each prefix of the bytes has, the shortest first, and its ending; or the longest prefixes
+/// alone, as many as asked for.
+pub(crate) fn cuts(
+    alloc: Global,
+    mut question: Words<'_>,
+    lines: &[Words<'_>],
+) -> Result<String, CaseFault> {
     let bytes = joined(alloc, lines)?;
+    let asked = if question.left().is_empty() {
+        bytes.len()
+    } else {
+        question.number::<usize>()?
+    };
     let mut out = String::new(alloc);
-    for length in 0..bytes.len() {
+    for length in bytes.len().saturating_sub(asked)..bytes.len() {
         put_frames(&mut out, bytes.get(..length).unwrap_or(&[]))?;
     }
     Ok(out)
 }
 
-fn put_frames(out: &mut String, bytes: &[u8]) -> Result<(), AllocError> {
+/// The frames with payloads of 0, 1, 2 and so on to less than so many zeros, fed in pieces of 4,096 bytes: how many there
+/// are, the last one, and the ending.
+pub(crate) fn rising(alloc: Global, mut question: Words<'_>) -> Result<String, CaseFault> {
+    let count = question.number::<usize>()?.min(PAYLOAD_MAX);
+    let mut bytes = Vec::new(alloc);
+    for length in 0..count {
+        let zeros = vec![in alloc; 0u8; length]?;
+        write_frame(1, &zeros, &mut bytes)?;
+    }
+    let text = fed(alloc, bytes.as_slice(), 4096, 4096)?;
+    let mut out = String::new(alloc);
+    put_count(&mut out, "", text.lines().count().saturating_sub(1) as u64)?;
+    out.push_str(" frames\n")?;
+    for line in text.lines().skip(count.saturating_sub(1)) {
+        out.push_str(line)?;
+        out.push_str("\n")?;
+    }
+    Ok(out)
+}
+
+// The frames of bytes that are fed in one piece. What comes of other pieces stands behind it where it differs: of single
+// bytes, and of two pieces, cut anywhere within 64 bytes of either end.
+fn put_frames(out: &mut String, bytes: &[u8]) -> Result<(), CaseFault> {
+    let alloc = *out.allocator();
+    let whole = fed(alloc, bytes, bytes.len(), bytes.len())?;
+    out.push_str(&whole)?;
+    put_difference(out, &whole, 1, fed(alloc, bytes, 1, 1)?)?;
+    for cut in (0..bytes.len()).filter(|cut| *cut < 64 || *cut > bytes.len().saturating_sub(64)) {
+        put_difference(out, &whole, cut, fed(alloc, bytes, cut, bytes.len())?)?;
+    }
+    Ok(())
+}
+
+fn put_difference(
+    out: &mut String,
+    whole: &str,
+    cut: usize,
+    other: String,
+) -> Result<(), AllocError> {
+    if other.as_str() == whole {
+        return Ok(());
+    }
+    put_count(out, "fed otherwise from byte ", cut as u64)?;
+    out.push_str("\n")?;
+    out.push_str(&other)
+}
+
+// The frames of bytes that are fed in a first piece of one size and others of another size, and the ending.
+fn fed(alloc: Global, bytes: &[u8], first: usize, size: usize) -> Result<String, CaseFault> {
+    let mut out = String::new(alloc);
+    let mut feed = FrameFeed::new(alloc, 8)?;
     let mut rest = bytes;
-    let mut at = 8u64;
-    for _ in 0..bytes.len() {
-        let size = put_frame(out, rest, at)?;
-        if size == 0 {
+    let mut wanted = first;
+    for _ in 0..=bytes.len() {
+        if feed.offset() > 1 << 40 {
             break;
         }
-        rest = rest.get(size..).unwrap_or(&[]);
-        at = at.saturating_add(size as u64);
+        let piece = rest.get(..wanted.min(FEED_ROOM)).unwrap_or(rest);
+        let taken = feed.feed(piece);
+        put_held(&mut out, &mut feed)?;
+        rest = rest.get(taken..).unwrap_or(&[]);
+        wanted = size;
     }
-    put_ending(out, rest, at)
+    put_ending(&mut out, &mut feed)?;
+    Ok(out)
 }
 
-// A line with the first frame, and its size; nothing, where none is whole.
-fn put_frame(out: &mut String, rest: &[u8], at: u64) -> Result<usize, AllocError> {
-    match first_frame(rest, at) {
-        Some(frame) => {
-            put_count(out, "frame ", frame.at)?;
-            put_count(out, " ", u64::from(frame.id))?;
-            put_bytes(out, " ", frame.payload)?;
-            out.push_str("\n")?;
-            Ok(frame.payload.len().saturating_add(3))
-        }
-        None => Ok(0),
+// A line for each whole frame that a feed holds.
+fn put_held(out: &mut String, feed: &mut FrameFeed) -> Result<(), AllocError> {
+    for _ in 0..feed.held() {
+        let Some(frame) = feed.next() else {
+            break;
+        };
+        put_count(out, "frame ", frame.at)?;
+        put_count(out, " ", u64::from(frame.id))?;
+        put_bytes(out, " ", frame.payload)?;
+        out.push_str("\n")?;
     }
+    Ok(())
 }
 
-fn ending(rest: &[u8], at: u64) -> Option<Ending> {
-    match first_frame(rest, at) {
+fn ending(feed: &mut FrameFeed) -> Option<Ending> {
+    match feed.next() {
         Some(_) => None,
-        None => Some(ending_of(rest, at)),
+        None => Some(feed.finish()),
     }
 }
 
-fn put_ending(out: &mut String, rest: &[u8], at: u64) -> Result<(), AllocError> {
-    match ending(rest, at) {
+fn put_ending(out: &mut String, feed: &mut FrameFeed) -> Result<(), AllocError> {
+    match ending(feed) {
         None => out.push_str("another frame")?,
         Some(Ending::Whole) => out.push_str("whole")?,
         Some(Ending::CutSize { at }) => put_count(out, "cut-size ", at)?,

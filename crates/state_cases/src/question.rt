@@ -42,6 +42,8 @@ fn answer(alloc: Global, case: &Case<'_>) -> Result<String, CaseFault> {
     match question.word()? {
         "pickle" => pickle_cases::pickle(alloc, question, lines),
         "items" => pickle_cases::items(alloc, question, lines),
+        "cuts" => frame_cases::cuts(alloc, question, lines),
+        "rising" => frame_cases::rising(alloc, question),
         "tabs" => {
             let word = question.word()?;
             question.end()?;
@@ -71,7 +73,6 @@ fn answer_to(
         "header" => frame_cases::headers(alloc, lines),
         "frame" => frame_cases::written(alloc, lines),
         "frames" => frame_cases::frames(alloc, lines),
-        "cuts" => frame_cases::cuts(alloc, lines),
         "navigation" => navigation_cases::navigations(alloc, case.question, lines),
         "fitted" => navigation_cases::fitted(alloc, lines),
         "group" => group_cases::groups(alloc, case.question, lines),

@@ -7,7 +7,7 @@ ghost use Rattle.session_disk.specs.DiskFiles.{is_listed, standing_in};
 ghost use Rattle.session_disk.specs.FailurePlans.{no_failures, planned};
 ghost use Rattle.session_disk.specs.Histories.{Changes};
 ghost use Rattle.session_disk.specs.Images.{Image};
-ghost use Rattle.session_disk.specs.Moments.{IsAtRest, IsNewestBelow, IsReadAt, after_create, after_append, after_sync, after_remove, after_settle, after_tell, bytes_at};
+ghost use Rattle.session_disk.specs.Moments.{IsAtRest, IsNewestBelow, IsBytes, IsReadAt, after_create, after_append, after_sync, after_remove, after_settle, after_tell, bytes_at};
 ghost use Rattle.session_disk.specs.Recordings.{empty_moment, with_safe_file};
 
 use crate::disk::SessionDisk;
@@ -166,6 +166,7 @@ impl SessionDisk for MemoryDisk {
         requires { IsSome ((history_of self.old).now.standing stamp) }
         ensures bound { IfOk result (λ n. n ≤ length into.old) }
         ensures bytes { IfOk result (λ n. IsReadAt (bytes_at stamp (history_of self.old).now) offset n into.new) }
+        ensures range { IfOk result (λ _. IsBytes (bytes_at stamp (history_of self.old).now)) }
         ensures unchanged { history_of self.new ≡ history_of self.old }
         ensures cause { DiskHasCause (failures_of self.old) (failures_of self.new) result }
         ensures succeeds { planned Call.Read (plan_of self.old) ≡ None → IsOk result }

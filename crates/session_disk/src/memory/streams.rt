@@ -1,7 +1,7 @@
 //! A source and a sink over memory, whose calls fail where that is asked for.
 ghost use Rattle.std.specs.Prelude.{◌≡◌, ℕ, ◌<◌, ◌≤◌, ◌↔◌, [], ◌++◌, length, take, drop, min, IfOk, IsErr, IsTrue, Contains};
 ghost use Rattle.session_disk.specs.Causes.{HasCause};
-ghost use Rattle.session_disk.specs.Moments.{IsReadAt};
+ghost use Rattle.session_disk.specs.Moments.{IsBytes, IsReadAt};
 ghost use Rattle.session_disk.specs.Streams.{TakesFrom, AddsTo};
 ghost use Rattle.session_disk.specs.MemoryStreams.{next_count};
 
@@ -175,6 +175,7 @@ fn is_named(calls: &[u64], call: u64) -> bool
 pub(crate) fn read_from(file: &[u8], offset: u64, into: &mut [u8]) -> usize
     ensures bound { result ≤ length into.old }
     ensures bytes { IsReadAt file.now offset result into.new }
+    ensures range { IsBytes file.now }
 {
     if offset >= file.len() as u64 {
         return 0;

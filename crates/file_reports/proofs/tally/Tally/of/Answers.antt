@@ -1,30 +1,30 @@
-use Rattle.std.proofs.Common.{rules, refl}
-use Rattle.std.proofs.lemmas.List.{take_rest}
-use Rattle.file_reports.proofs.WalkLaws.{ahead_first, ahead_more, ahead_none, ends_at}
-use Rattle.file_reports.proofs.TallyLaws.{MakesUp, nothing, makes_first, makes_more, makes_all, raw_more}
+use Rattle.std.proofs.Common.{rules, refl, arith, ◌∙◌}
+use Rattle.file_reports.proofs.WalkLaws.{ahead_more, ahead_none, ending_read, ends_at}
+use Rattle.file_reports.proofs.TallyLaws.{MakesUp, makes_more, makes_all, raw_more}
 use Rattle.file_reports.proofs.tally.Tally.of.Goals as goal
 
-pub loop-frame-init : goal.loop-frame-init
-loop-frame-init c = record {
-  ahead = ahead_first (MakesUp c.args.family nothing 8) _ (makes_first c.args.family);
-  within = search rules;
-  few = search rules;
-  fewer = search rules;
-}
+pub loop-reader-preserved : goal.loop-reader-preserved
+loop-reader-preserved g c =
+    let l = c.loop-reader.invariant in
+    let on = c.next.follows.holds-at-none in
+    let moved = rw (c.in_ok-frame.was, c.in-Some.is) at on.moved in
+    rw (c.with-tally.ensures, rw c.in-Some.is at c.in_ok-frame.ensures.offset) (record {
+      stamp = on.stamp ∙ l.stamp;
+      reading = rw (l.stamp, l.unchanged) at on.reading;
+      unchanged = c.next.ensures.unchanged ∙ l.unchanged;
+      later = search rules;
+      ahead = λ modelled. rw moved (ahead_more (MakesUp c.args.family c.loop-reader.tally c.loop-reader.reader.feed.at) (MakesUp c.args.family _ _) _ _ _ _
+          (rw (l.stamp, l.unchanged, c.in-Some.is) at (c.in_ok-frame.ensures.first modelled)) refl (makes_more _ _ _ _) (l.ahead modelled));
+      few = omega (arith, l.few, moved);
+      fewer = raw_more _ _ _ l.fewer;
+    })
 
-pub loop-frame-preserved : goal.loop-frame-preserved
-loop-frame-preserved c = rw (c.with-tally.ensures, c.in-Some.ensures.offset) (record {
-  ahead = ahead_more (MakesUp c.args.family c.loop-frame.tally c.loop-frame.at) (MakesUp c.args.family _ _) _ _ _ _ c.in-Some.ensures.first refl (makes_more _ _ _ _) c.loop-frame.invariant.ahead;
-  within = search rules;
-  few = search rules;
-  fewer = raw_more _ _ _ c.loop-frame.invariant.fewer;
-})
-
-pub returns-clause-tally : goal.returns-clause-tally
-returns-clause-tally c = λ frames rest reads.
-    makes_all _ _ _ frames (ahead_none (MakesUp c.args.family c.loop-frame.tally c.loop-frame.at) _ _ c.in_default.ensures.first c.loop-frame.invariant.ahead frames rest reads).0
-
-pub returns-clause-ending : goal.returns-clause-ending
-returns-clause-ending c = λ frames rest reads.
-    ends_at _ _ _ rest frames (simp take_rest at c.ending_of.ensures)
-    (ahead_none (MakesUp c.args.family c.loop-frame.tally c.loop-frame.at) _ _ c.in_default.ensures.first c.loop-frame.invariant.ahead frames rest reads)
+pub returns-clause-counts : goal.returns-clause-counts
+returns-clause-counts g c = λ modelled frames rest reads.
+    let l = c.loop-reader.invariant in
+    let on = c.next.follows.holds-at-none in
+    let none = rw (l.stamp, l.unchanged, c.in_default.is) at (c.in_ok-frame.ensures.first modelled) in
+    let ends = (rw (l.stamp, l.unchanged, c.in_ok-frame.was, c.in_default.is) at (on.ended modelled)) refl in
+    let ending = ending_read _ _ _ _ (rw (c.in_ok-frame.was, c.in_default.is) at on.moved).0 ends c.ending.ensures in
+    let done = ahead_none (MakesUp c.args.family c.loop-reader.tally c.loop-reader.reader.feed.at) _ _ none (l.ahead modelled) frames rest reads in
+    (makes_all _ _ _ frames done.0, ends_at _ _ _ rest frames ending done)

@@ -1,0 +1,4 @@
+pub mod Filling
+pub mod Heads
+pub mod FrameReading
+pub mod ReaderLending
