@@ -3,8 +3,8 @@
 
 The file has windows and tabs, and then for each tab pages with titles, pinned flags, extra values, groups, unknown
 commands and payloads that don't read. Prints for each report the seconds of the processor, the megabytes of the file and
-the lines a second, the bytes that were written, and the most memory that was held, with the factors from the small file
-to the large one. Build the program first.
+the lines a second, the bytes that were written, and the most memory that was held, as GNU time says it, with the factors
+from the small file to the large one. Build the program first.
 """
 import os
 import random
@@ -89,22 +89,24 @@ def mixed_file(path, size):
 def measured(words):
     """Seconds of the processor, bytes and lines that were written, and the most bytes of memory that were held."""
     read, write = os.pipe()
-    child = os.fork()
-    if child == 0:
-        os.dup2(write, 1)
-        os.close(read)
+    with tempfile.NamedTemporaryFile("r") as said:
+        child = os.fork()
+        if child == 0:
+            os.dup2(write, 1)
+            os.close(read)
+            os.close(write)
+            # a child of this process would count this one's own memory as held
+            os.execvp("time", ["time", "-f", "%M", "-o", said.name, str(PROGRAM), *words])
         os.close(write)
-        os.execv(PROGRAM, [str(PROGRAM), *words])
-    os.close(write)
-    size = lines = 0
-    while piece := os.read(read, 1 << 20):
-        size += len(piece)
-        lines += piece.count(b"\n")
-    os.close(read)
-    _, status, used = os.wait4(child, 0)
-    if status != 0:
-        raise SystemExit(f"{words} ended with {os.waitstatus_to_exitcode(status)}")
-    return used.ru_utime + used.ru_stime, size, lines, used.ru_maxrss * 1024
+        size = lines = 0
+        while piece := os.read(read, 1 << 20):
+            size += len(piece)
+            lines += piece.count(b"\n")
+        os.close(read)
+        _, status, used = os.wait4(child, 0)
+        if status != 0:
+            raise SystemExit(f"{words} ended with {os.waitstatus_to_exitcode(status)}")
+        return used.ru_utime + used.ru_stime, size, lines, int(said.read()) * 1024
 
 
 def main():
@@ -120,7 +122,7 @@ def main():
                 seconds, written, lines, memory = measured([*words, name])
                 row = (
                     f"  {words[0]:8} {seconds:7.2f} s {file_size / MEGABYTE / seconds:8.0f} MB/s {lines / seconds:10.0f} lines/s"
-                    f" {written / MEGABYTE:7.1f} MB written {memory / MEGABYTE:7.0f} MB held"
+                    f" {written / MEGABYTE:7.1f} MB written {memory / MEGABYTE:7.1f} MB held"
                 )
                 if words[0] in before:
                     row += f"  time x{seconds / before[words[0]][0]:.1f} memory x{memory / before[words[0]][1]:.1f}"

@@ -1,9 +1,9 @@
 #!/usr/bin/env python3
-"""Times the reading of a large raw file in pieces, beside `wc -c`, and counts the bytes that are read from a folder.
+"""Times the reading of a large raw file in pieces, beside `wc`, and counts the bytes that are read from a folder.
 
 The file has 10 or 100 MB of frames that no row takes, with payloads of 0 to 300 bytes. For `check` and `recover` it prints
 the seconds of the processor, the least of five runs, the megabytes a second, the most memory that was held, and the
-factor to `wc -c` reading the same bytes. Then, with strace, for a folder of three files, the newest without a marker, it
+factor to `wc` reading the same bytes. Then, with strace, for a folder of three files, the newest without a marker, it
 prints how many bytes of each `list`, `check` and `recover` read. Build the program first.
 """
 import os
@@ -14,11 +14,8 @@ import subprocess
 import tempfile
 from pathlib import Path
 
-PROGRAM = Path(__file__).resolve().parent.parent / "crates/inspect_main/out/inspect_main"
-MEGABYTE = 1_000_000
-SIZES = [10 * MEGABYTE, 100 * MEGABYTE]
-HEADER = b"SNSS\x03\0\0\0"
-MARKER = b"\x01\0\xff"
+from inspect_cost import HEADER, MARKER, MEGABYTE, PROGRAM, SIZES, measured
+
 RUNS = 5
 
 
@@ -40,36 +37,26 @@ def raw_file(path, size, marked):
     return path.stat().st_size
 
 
-def measured(command, source=None):
-    """Seconds of the processor, the least of the runs, and the most bytes of memory that were held."""
-    least = None
-    for _ in range(RUNS):
-        child = os.fork()
-        if child == 0:
-            os.dup2(os.open("/dev/null", os.O_WRONLY), 1)
-            if source:
-                os.dup2(os.open(source, os.O_RDONLY), 0)
-            os.execvp(command[0], command)
-        _, status, used = os.wait4(child, 0)
-        if status != 0:
-            raise SystemExit(f"{command} ended with {os.waitstatus_to_exitcode(status)}")
-        seconds = used.ru_utime + used.ru_stime
-        least = min(least or seconds, seconds)
-    return least, used.ru_maxrss * 1024
+def counted(path):
+    """Seconds of the processor that wc takes, which reads the bytes where it counts lines too."""
+    with path.open("rb") as source:
+        child = subprocess.Popen(["wc", "-cl"], stdin=source, stdout=subprocess.DEVNULL)
+        used = os.wait4(child.pid, 0)[2]
+    return used.ru_utime + used.ru_stime
 
 
 def time_sizes(folder):
     path = folder / "Session_7"
     for wanted in SIZES:
         size = raw_file(path, wanted, True)
-        # -l makes it read the bytes; -c alone asks for the length
-        counted, _ = measured(["wc", "-cl"], path)
-        print(f"{size / MEGABYTE:.0f} MB raw: wc reads it in {counted:.3f} s")
+        beside = min(counted(path) for _ in range(RUNS))
+        print(f"{size / MEGABYTE:.0f} MB raw: wc reads it in {beside:.3f} s")
         for words in (["check", "session", "7"], ["recover"]):
-            seconds, memory = measured([str(PROGRAM), *words, str(folder)])
+            runs = [measured([*words, str(folder)]) for _ in range(RUNS)]
+            seconds, memory = min(run[0] for run in runs), max(run[3] for run in runs)
             print(
                 f"  {words[0]:8} {seconds:6.3f} s {size / MEGABYTE / seconds:6.0f} MB/s"
-                f" {memory / MEGABYTE:5.1f} MB held, wc x{seconds / counted:.1f}"
+                f" {memory / MEGABYTE:5.1f} MB held, wc x{seconds / beside:.1f}"
             )
     path.unlink()
 
