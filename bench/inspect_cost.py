@@ -1,10 +1,10 @@
 #!/usr/bin/env python3
-"""Times what the inspection of a large file costs: check, show, recover and json of a mixed session file of 10 and 100 MB.
+"""Times what the inspection of a large file costs: check, show, recover and json of a mixed file of 10 and 100 MB.
 
 The file has windows and tabs, and then for each tab pages with titles, pinned flags, extra values, groups, unknown
-commands and payloads that don't read. Prints for each report the seconds of the processor, the megabytes of the file and
-the lines a second, the bytes that were written, and the most memory that was held, as GNU time says it, with the factors
-from the small file to the large one. Build the program first.
+commands and payloads that don't read. Prints for each report the seconds of the processor, the megabytes of the file
+and the lines a second, the bytes that were written, and the most memory that was held, as GNU time says it, with the
+factors from the small file to the large one. Build the program first.
 """
 import os
 import random
@@ -54,7 +54,12 @@ def page(tab, index):
     rest += units("") + struct.pack("<iii", 200, 0, 0)
     return pickle(
         6,
-        struct.pack("<ii", tab, index) + text(url) + units(title) + text(bytes(random.randrange(120))) + struct.pack("<i", 0) + rest,
+        struct.pack("<ii", tab, index)
+        + text(url)
+        + units(title)
+        + text(bytes(random.randrange(120)))
+        + struct.pack("<i", 0)
+        + rest,
     )
 
 
@@ -121,7 +126,8 @@ def main():
             for words in (["check", "session", str(STAMP)], ["show", "session", str(STAMP)], ["recover"], ["json"]):
                 seconds, written, lines, memory = measured([*words, name])
                 row = (
-                    f"  {words[0]:8} {seconds:7.2f} s {file_size / MEGABYTE / seconds:8.0f} MB/s {lines / seconds:10.0f} lines/s"
+                    f"  {words[0]:8} {seconds:7.2f} s {file_size / MEGABYTE / seconds:8.0f} MB/s"
+                    f" {lines / seconds:10.0f} lines/s"
                     f" {written / MEGABYTE:7.1f} MB written {memory / MEGABYTE:7.1f} MB held"
                 )
                 if words[0] in before:

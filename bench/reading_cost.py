@@ -1,10 +1,10 @@
 #!/usr/bin/env python3
 """Times the reading of a large raw file in pieces, beside `wc`, and counts the bytes that are read from a folder.
 
-The file has 10 or 100 MB of frames that no row takes, with payloads of 0 to 300 bytes. For `check` and `recover` it prints
-the seconds of the processor, the least of five runs, the megabytes a second, the most memory that was held, and the
-factor to `wc` reading the same bytes. Then, with strace, for a folder of three files, the newest without a marker, it
-prints how many bytes of each `list`, `check` and `recover` read. Build the program first.
+The file has 10 or 100 MB of frames that no row takes, with payloads of 0 to 300 bytes. For `check` and `recover` it
+prints the seconds of the processor, the least of five runs, the megabytes a second, the most memory that was held, and
+the factor to `wc` reading the same bytes. Then, with strace, for a folder of three files, the newest without a marker,
+it prints how many bytes of each `list`, `check` and `recover` read. Build the program first.
 """
 import os
 import random
@@ -67,7 +67,8 @@ def count_bytes(folder):
         "Session_8": raw_file(folder / "Session_8", MEGABYTE, True),
         "Session_9": raw_file(folder / "Session_9", MEGABYTE, False),
     }
-    print("three files, by rising stamp, of", ", ".join(f"{size:,}" for size in sizes.values()), "bytes; the last is unmarked")
+    lengths = ", ".join(f"{size:,}" for size in sizes.values())
+    print(f"three files, by rising stamp, of {lengths} bytes; the last is unmarked")
     call = re.compile(r"pread64\(\d+<[^>]*/(Session_\d)>.* = (\d+)$")
     for words in (["list"], ["check", "session", "8"], ["recover"]):
         trace = folder / "trace"

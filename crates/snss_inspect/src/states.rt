@@ -26,7 +26,8 @@ use tabs_compactor::TabsMachine;
 use view_reports::{put_json, put_lines};
 use window_state::{View, view};
 
-/// Adds the report on what the files read to. It needs memory for the states of both families, and one buffer for files of any size.
+/// Adds the report on what the files read to. It needs memory for the states of both families, and one buffer for files
+/// of any size.
 pub(crate) fn put_states<K: Sink, D: SessionDisk>(
     alloc: Global,
     report: StateReport,
