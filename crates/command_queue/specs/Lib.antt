@@ -1,0 +1,5 @@
+pub mod BoardRule
+pub mod Leftovers
+pub mod Passes
+pub mod QueueRule
+pub mod Seats
