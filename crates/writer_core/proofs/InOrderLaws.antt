@@ -34,6 +34,7 @@ module _ {M D S C : Type 0} {m : machine.Ghosts M S C} {d : disk.Ghosts D} where
     answers = (works, λ small. omega arith);
     works = λ modelled b done same few on. subst (λ (jobs : List (Job C)). GoesOn b old jobs) (sym (append-nil done)) on;
     keeps_told = nothing_keeps tt old;
+    counted = λ before. before;
   }
 
   does_one : {T : Type 0} (todo : Job C) (old new : Journal M D S C m d) (result : Result T JournalFault) → Does todo old new result → DoesAll (todo ∷ []) old new result
@@ -42,6 +43,7 @@ module _ {M D S C : Type 0} {m : machine.Ghosts M S C} {d : disk.Ghosts D} where
     answers = subst (λ (said : List C). IssueAnswers (length said) old new result) (sym (append-nil (commands_of todo))) does.answers;
     works = does.works;
     keeps_told = does.keeps_told;
+    counted = does.counts.counted;
   }
 
   does_then : {T U : Type 0} (x : T) (jobs more : List (Job C)) (old mid new : Journal M D S C m d) (result : Result U JournalFault) → DoesAll jobs old mid (Ok x) → DoesAll more mid new result → DoesAll (jobs ++ more) old new result
@@ -51,6 +53,7 @@ module _ {M D S C : Type 0} {m : machine.Ghosts M S C} {d : disk.Ghosts D} where
         (answers_then (length (commands jobs)) (length (commands more)) (log old) (log mid) (log new) x result one.later one.answers two.answers);
     works = works_then x jobs more old mid new result one.later.limits one.works two.works;
     keeps_told = keeps_then x old mid new result one.keeps_told two.keeps_told;
+    counted = λ before. two.counted (one.counted before);
   }
 
   through_none : (old : Journal M D S C m d) → GoesThrough [] old

@@ -9,3 +9,5 @@ pub mod AccountLaws
 pub mod TellingLaws
 pub mod InOrderLaws
 pub mod RunLaws
+pub mod SyncedLaws
+pub mod ServingLaws

@@ -81,6 +81,7 @@ module _ {S C : Type 0} (kind : Kind S C) (IsMoment : ℕ → Type 0) (modelled 
     works = works;
     limited = limited;
     none_written = answers.0;
+    none_told = answers.1;
     later = later;
     newest = λ told. let fresh = (makes told).0 in (fresh.greatest, fresh.newest);
     begins = λ told b same begins. opened_on kind IsMoment b limits entry.history l.history l.present l.waiting same begins bound (starts told b.first begins.ready) (makes told) (left told b.first begins.ready);

@@ -1,5 +1,5 @@
 -- What is told by a journal's calls, one after another: it never falls, and a sync tells all.
-use Rattle.std.proofs.Common.{◌≡◌, ℕ, ◌≤◌, List, [], ◌∷◌, ◌++◌, Option, Some, None, Result, Ok, Err, OnOk, sym, ap, ◌∙◌, arith}
+use Rattle.std.proofs.Common.{◌≡◌, ℕ, ◌≤◌, ◌<◌, ◌^◌, List, [], ◌∷◌, ◌++◌, Option, Some, None, Result, Ok, Err, OnOk, refl, sym, ap, subst, ◌∙◌, arith}
 use Rattle.machine_law.specs.Kind.{Kind}
 use Rattle.machine_law.specs.declared.machine.Machine as machine
 use Rattle.session_disk.specs.Moments.{Moment}
@@ -15,7 +15,7 @@ use Rattle.log_writer.specs.declared.fault.First.{First}
 use Rattle.log_writer.specs.declared.fault.JournalFault.{JournalFault}
 use Rattle.writer_core.specs.Handling.{Turn, Done, Refused, Skipped}
 use Rattle.writer_core.specs.InOrder.{TurnsLast}
-use Rattle.writer_core.specs.Telling.{KeepsTold, Runs, TellsTaken, told_by}
+use Rattle.writer_core.specs.Telling.{Counts, IsCounted, KeepsTold, Runs, TellsTaken, told_by}
 use Rattle.writer_core.specs.declared.item.Job.{Job}
 use Rattle.writer_core.specs.declared.item.Job.TheVariants as job
 
@@ -92,6 +92,43 @@ module _ {M D S C : Type 0} {m : machine.Ghosts M S C} {d : disk.Ghosts D} (old 
   sync_tells (Ok x) h = ap (λ (p : Present S). p.told) h ∙ sym (ap (λ (p : Present S). p.count) h)
   sync_tells (Err why) h = tt
 
+  -- the numbers of commands that were taken and told
+  pub write_counts : {T : Type 0} (result : Result T JournalFault) (command : C) → StepsBy command old new result
+      → Counts (job.Write command) old new result
+  write_counts (Ok x) command h = record {
+    told = h.told;
+    counted = λ before. (omega (arith, h.told, h.count, before.0, before.1), omega (arith, h.count));
+  }
+  write_counts (Err why) command h = record {
+    told = h.told;
+    counted = λ before. (omega (arith, h.told, h.count, before.0), omega (arith, h.count, before.1));
+  }
+
+  pub compact_counts : {T : Type 0} (result : Result T JournalFault) (bytes : ℕ) → RestatesIn bytes old new result
+      → Counts job.Compact old new result
+  compact_counts (Ok x) bytes h = record {
+    told = h.told;
+    counted = λ before. (omega (arith, h.told, h.count, before.0), omega (arith, h.count, before.1));
+  }
+  compact_counts (Err why) bytes h = record {
+    told = ap (λ (p : Present S). p.told) h;
+    counted = λ before. subst IsCounted (sym h) before;
+  }
+
+  pub sync_counts : {T : Type 0} (result : Result T JournalFault) → TellsAll old new result
+      → Counts job.Sync old new result
+  sync_counts (Ok x) h = record {
+    told = ap (λ (p : Present S). p.told) h;
+    counted = λ before. (
+      omega (arith, ap (λ (p : Present S). p.told) h, ap (λ (p : Present S). p.count) h),
+      omega (arith, ap (λ (p : Present S). p.count) h, before.1),
+    );
+  }
+  sync_counts (Err why) h = record {
+    told = ap (λ (p : Present S). p.told) h;
+    counted = λ before. subst IsCounted (sym h) before;
+  }
+
   -- whatever a journal's turn at the last of some jobs was
   pub turn_keeps : (before : List (Job C)) (last : Job C) (turn : Turn) → TurnsLast before last old new turn
       → d.modelled → Runs m.kind (log old) → told_by (log old) ≤ told_by (log new)
@@ -102,6 +139,9 @@ module _ {M D S C : Type 0} {m : machine.Ghosts M S C} {d : disk.Ghosts D} (old 
 module _ {M D S C : Type 0} {m : machine.Ghosts M S C} {d : disk.Ghosts D} where
   pub nothing_keeps : {T : Type 0} (x : T) (old : Journal M D S C m d) → KeepsTold old old (Ok x)
   nothing_keeps x old = λ modelled on. record { stays = omega arith; runs = on }
+
+  pub nothing_counts : {T : Type 0} (x : T) (old : Journal M D S C m d) → Counts job.Nothing old old (Ok x)
+  nothing_counts x old = record { told = refl; counted = λ before. before }
 
   -- calls one after another
   pub keeps_then : {T U : Type 0} (x : T) (old mid new : Journal M D S C m d) (result : Result U JournalFault)

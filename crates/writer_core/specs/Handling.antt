@@ -9,7 +9,7 @@ use Rattle.log_writer.specs.declared.journal.Journal.{Journal}
 use Rattle.log_writer.specs.declared.fault.JournalFault.{JournalFault}
 use Rattle.writer_core.specs.Jobs.{commands_of}
 use Rattle.writer_core.specs.Working.{IssueAnswers, Syncs, Works}
-use Rattle.writer_core.specs.Telling.{KeepsTold, TellsTaken}
+use Rattle.writer_core.specs.Telling.{Counts, KeepsTold, TellsTaken}
 use Rattle.writer_core.specs.declared.handling.Stopped.{Stopped}
 use Rattle.writer_core.specs.declared.item.Job.{Job}
 
@@ -40,6 +40,7 @@ module _ {M D S C : Type 0} {m : machine.Ghosts M S C} {d : disk.Ghosts D} where
     pub syncs : Syncs todo old new result
     pub keeps_told : KeepsTold old new result
     pub tells : TellsTaken todo new result
+    pub counts : Counts todo old new result
 
   abbrev pub Turns : Job C → Journal M D S C m d → Journal M D S C m d → Turn → Type 0
   Turns todo old new Done = Does {T = Unit {0}} todo old new (Ok tt)

@@ -10,7 +10,7 @@ use Rattle.log_writer.specs.declared.fault.JournalFault.{JournalFault}
 use Rattle.writer_core.specs.Course.{Goes, options}
 use Rattle.writer_core.specs.Handling.{Turn, Done, Refused, Skipped, turn_of}
 use Rattle.writer_core.specs.Jobs.{commands, session_job, tabs_job}
-use Rattle.writer_core.specs.Telling.{KeepsTold}
+use Rattle.writer_core.specs.Telling.{IsCounted, KeepsTold}
 use Rattle.writer_core.specs.Working.{Beginning, GoesOn, IssueAnswers, Works, course}
 use Rattle.writer_core.specs.declared.handling.Stopped.{Stopped}
 use Rattle.writer_core.specs.declared.handling.Writers.{Writers}
@@ -25,6 +25,7 @@ module _ {M D S C : Type 0} {m : machine.Ghosts M S C} {d : disk.Ghosts D} where
     pub answers : IssueAnswers (length (commands jobs)) old new result
     pub works : Works jobs old new result
     pub keeps_told : KeepsTold old new result
+    pub counted : IsCounted old.present → IsCounted new.present
 
   -- On a modelled disk, wherever the run began, whatever was done before, and in all no more than any run has: these
   -- jobs stop nothing, as the account says.

@@ -36,3 +36,7 @@ IsJob IsCommand (job.Write command) = IsCommand command
 IsJob IsCommand job.Sync = Unit {0}
 IsJob IsCommand job.Compact = Unit {0}
 IsJob IsCommand job.Nothing = Unit {0}
+
+-- so is what an item asks of both journals
+abbrev pub AreJobs : {A B : Type 0} → (A → Type 0) → (B → Type 0) → Item A B → Type 0
+AreJobs IsFirst IsSecond item = IsJob IsFirst (session_job item) × IsJob IsSecond (tabs_job item)

@@ -7,6 +7,11 @@ pub mod Opening
 pub mod Accounts
 pub mod Handling
 pub mod InOrder
+pub mod Synced
+pub mod Ends
+pub mod Serving
+pub use Rattle.command_queue.specs.Passes
+pub use Rattle.command_queue.specs.Seats
 pub use Rattle.machine_law.specs.Kind
 pub use Rattle.session_disk.specs.Causes
 pub use Rattle.session_disk.specs.Moments

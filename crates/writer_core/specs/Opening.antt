@@ -33,6 +33,7 @@ module _ {S C : Type 0} (kind : Kind S C) (modelled : Type 0) (limits : Limits) 
     pub works : l.failed ≡ None
     pub limited : l.limits ≡ limits
     pub none_written : l.present.count ≡ 0
+    pub none_told : l.present.told ≡ 0
     pub later : entry.failures ≤ l.failures
     pub newest : modelled → (greatest : Option ℕ) × IsNewestBelow entry.history.now.standing None greatest
     pub begins : WhereBegun (λ b. WritesOn kind b l [])

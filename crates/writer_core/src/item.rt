@@ -2,6 +2,7 @@
 //! each family.
 ghost use Rattle.std.specs.Prelude.{◌≡◌};
 ghost use Rattle.writer_core.specs.Jobs.{session_job, tabs_job};
+ghost use Rattle.writer_core.specs.Ends.{is_end, is_sync};
 
 /// What is to be done: a command written to the journal of a family, or both journals synced or compacted. The end of
 /// all items asks nothing.
@@ -34,5 +35,21 @@ pub fn jobs<A, B>(item: Item<A, B>) -> (Job<A>, Job<B>)
         Item::Sync => (Job::Sync, Job::Sync),
         Item::Compact => (Job::Compact, Job::Compact),
         Item::End => (Job::Nothing, Job::Nothing),
+    }
+}
+
+impl<A, B> Item<A, B> {
+    /// Whether this is the end of all items.
+    pub fn is_end(&self) -> bool
+        ensures { result ≡ is_end self.now }
+    {
+        matches!(self, Item::End)
+    }
+
+    /// Whether this asks for a sync of both journals.
+    pub fn is_sync(&self) -> bool
+        ensures { result ≡ is_sync self.now }
+    {
+        matches!(self, Item::Sync)
     }
 }

@@ -26,10 +26,14 @@ mod handling;
 mod in_order;
 mod item;
 mod opening;
+mod queue_item;
+mod serving;
 mod working;
 
 pub use handling::{Stopped, Writers, handle};
 pub use in_order::{handle_session, handle_tabs};
 pub use item::{Item, Job, jobs};
 pub use opening::open_journal;
+pub use queue_item::QueueItem;
+pub use serving::{Report, serve, worker};
 pub use working::work;

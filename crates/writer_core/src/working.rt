@@ -3,7 +3,7 @@
 ghost use Rattle.std.specs.Prelude.{◌≡◌, [], ◌∷◌, length, None};
 ghost use Rattle.log_writer.specs.Answers.{Lasts};
 ghost use Rattle.writer_core.specs.Jobs.{IsJob, commands_of};
-ghost use Rattle.writer_core.specs.Telling.{KeepsTold, TellsTaken};
+ghost use Rattle.writer_core.specs.Telling.{Counts, KeepsTold, TellsTaken};
 ghost use Rattle.writer_core.specs.Working.{IssueAnswers, Syncs, Works};
 
 use crate::item::Job;
@@ -26,6 +26,7 @@ pub fn work<M: Machine, D: SessionDisk, C: Clock>(
     ensures syncs { Syncs job journal.old journal.new result }
     ensures keeps_told { KeepsTold journal.old journal.new result }
     ensures tells { TellsTaken job journal.new result }
+    ensures counts { Counts job journal.old journal.new result }
 {
     match job {
         Job::Write(command) => match journal.write(clock, command) {
