@@ -1,5 +1,6 @@
 -- Steps that are done one after another, and a halt behind some of them.
-use Rattle.std.proofs.Common.{◌≡◌, ℕ, ◌+◌, ◌≤◌, List, ◌++◌, length, map, Ok, append_assoc, sym, ap, ◌∙◌, subst, arith}
+use Rattle.std.proofs.Common.{◌≡◌, ℕ, ◌+◌, ◌≤◌, List, ◌++◌, length, map, Result, Ok, Err, append_assoc}
+use Rattle.std.proofs.Common.{sym, ap, ◌∙◌, subst, arith}
 use Rattle.machine_law.specs.declared.machine.Machine as machine
 use Rattle.session_disk.specs.declared.disk.SessionDisk as disk
 use Rattle.session_disk.specs.declared.family.Family.{Family}
@@ -17,7 +18,7 @@ use Rattle.run_words.specs.Outcome.{IsPrefix}
 use Rattle.script_run.specs.declared.halt.Halt.{Halt}
 use Rattle.script_run.specs.declared.halt.Halt.TheVariants as halt
 use Rattle.script_run.specs.Doing.{Sunk, Count, said_from, SaysDone, HaltCause, RunWriters, StepsDone, StopsBehind}
-use Rattle.script_run.specs.Doing.{HaltsBehind, StepsHalted}
+use Rattle.script_run.specs.Doing.{DoesSteps, HaltsBehind, StepsHalted}
 use Rattle.script_run.specs.Runs.{Logs, logs}
 use Rattle.script_run.specs.Steps.{Step, issued_to, items_of, said_behind}
 use Rattle.script_run.proofs.FamilyLaws.{each}
@@ -189,3 +190,17 @@ module _ {M N D : Type 0} {m : machine.Ghosts M SessionState SessionCommand}
         (says-longer why (logs old) h.done h.left more) (h.says fits);
     tells = h.tells;
   }
+
+  -- whatever the answer is
+  pub does-then : {T : Type 0} (first more : List Step) (old mid new : RunWriters M N D m n d)
+      (before between after : Sunk) (ran : Result T Halt) → StepsDone first old mid before between
+      → DoesSteps more mid new between after ran → DoesSteps (first ++ more) old new before after ran
+  does-then first more old mid new before between after (Ok x) one two =
+      done-then first more old mid new before between after one two
+  does-then first more old mid new before between after (Err why) one two =
+      halted-then first more old mid new before between after why one two
+
+  pub does-later : {T : Type 0} (steps : List Step) (old new : RunWriters M N D m n d) (before after : Sunk)
+      (ran : Result T Halt) → DoesSteps steps old new before after ran → before.faults ≤ after.faults
+  does-later steps old new before after (Ok x) h = h.later
+  does-later steps old new before after (Err why) h = h.later

@@ -1,6 +1,6 @@
 -- How a whole run ends: its line of a start, and its steps behind it.
-use Rattle.std.proofs.Common.{◌≡◌, ◌⊎◌, ℕ, ◌+◌, ◌<◌, ◌≤◌, ◌^◌, List, [], ◌++◌, length, Option, Ok, Err, refl, sym, ap}
-use Rattle.std.proofs.Common.{◌∙◌, subst, inl, inr, arith}
+use Rattle.std.proofs.Common.{◌≡◌, ◌⊎◌, ℕ, ◌+◌, ◌<◌, ◌≤◌, ◌^◌, List, [], ◌++◌, length, Option, Result, Ok, Err}
+use Rattle.std.proofs.Common.{IfOk, OnOk, refl, sym, ap, ◌∙◌, subst, inl, inr, arith}
 use Rattle.std.proofs.lemmas.List.{append-nil}
 use Rattle.compactor.specs.contracts.session.machine.SessionMachineMachine.TheImpl.{ghosts as session_ghosts}
 use Rattle.compactor.specs.declared.session.machine.SessionMachine.{SessionMachine}
@@ -17,10 +17,11 @@ use Rattle.run_words.specs.declared.why.Why.{Why}
 use Rattle.script_run.specs.declared.halt.Halt.{Halt}
 use Rattle.script_run.specs.declared.halt.Halt.TheVariants as halt
 use Rattle.script_run.specs.Counts.{counts_of}
-use Rattle.script_run.specs.Doing.{Count, HaltsBehind, RunWriters, SaysDone, StepsDone, StepsHalted, Sunk, said_from}
+use Rattle.script_run.specs.Doing.{Count, DoesSteps, HaltsBehind, RunWriters, SaysDone, StepsDone, StepsHalted, Sunk}
+use Rattle.script_run.specs.Doing.{said_from}
 use Rattle.script_run.specs.Families.{Firsts, kind_of}
-use Rattle.script_run.specs.Runs.{EndsBy, HasHalted, HasRun, LeavesRun, Logs, RunHalted, SaysHalted, ShowsPicture, WhereOpened}
-use Rattle.script_run.specs.Runs.{Writes, logs, said_behind_start, states_of}
+use Rattle.script_run.specs.Runs.{EndsBy, HasHalted, HasRun, HoldsRun, LeavesRun, Logs, RunHalted, RunsScript}
+use Rattle.script_run.specs.Runs.{SaysHalted, ShowsPicture, WhereOpened, Writes, logs, said_behind_start, states_of}
 use Rattle.script_run.specs.Script.{course_of, steps_of}
 use Rattle.script_run.specs.Starting.{Starts}
 use Rattle.script_run.specs.Steps.{Step, issued_to, items_of, jobs_of, said_behind, said_by}
@@ -103,7 +104,7 @@ module _ {D : Type 0} {d : disk.Ghosts D}
       behind-start P Q f h =
           writes-then before.written between.written after.written (start_line (counts_of firsts)) P Q f start.says h
 
-      pub has-run : (refused : Option (ℕ × Why)) → refused ≡ (course_of firsts text).refused
+      has-run : (refused : Option (ℕ × Why)) → refused ≡ (course_of firsts text).refused
           → StepsDone steps old new between after
           → WhereOpened d.modelled (logs old) (λ b. (family : Family) → HoldsCommands (kind_of family) (b family)
           (logs new family).history (jobs_of family steps)) → ShowsPicture firsts text
@@ -141,7 +142,7 @@ module _ {D : Type 0} {d : disk.Ghosts D}
           (SaysHalted d.modelled (logs old) firsts steps halt.Memory)
           (λ more e. inr (done, left, parts, ap (λ x. start_line (counts_of firsts) ++ x) (e ∙ said-all done))) says
 
-      pub run-halted : (why : Halt) → StepsHalted steps old new between after why
+      run-halted : (why : Halt) → StepsHalted steps old new between after why
           → RunHalted d.modelled (Rose before.faults after.faults) (logs old) (logs new) text before.written
           after.written
           why
@@ -151,3 +152,14 @@ module _ {D : Type 0} {d : disk.Ghosts D}
         ends = halted-ends old new steps few between after why h;
         says = halted-says why h.done h.left h.parts h.journals (h.says counts-fit);
       }
+
+      -- whatever it answers
+      pub run-ends : (ran : Result (Option (ℕ × Why)) Halt)
+          → DoesSteps (steps_of (states_of (logs old)) text) old new between after ran
+          → IfOk ran (λ refused. refused ≡ (course_of (states_of (logs old)) text).refused)
+          → OnOk ran (HoldsRun d.modelled (logs old) (logs new) (steps_of (states_of (logs old)) text))
+          → OnOk ran (ShowsPicture (states_of (logs old)) text)
+          → RunsScript d.modelled (Rose before.faults after.faults) (logs old) (logs new) text before.written
+          after.written ran
+      run-ends (Ok refused) did is holds shows = has-run refused is did holds shows
+      run-ends (Err why) halted is holds shows = run-halted why halted

@@ -4,6 +4,7 @@ pub mod FamilyLaws
 pub mod SyncLineLaws
 pub mod DoingLaws
 pub mod HandledLaws
+pub mod SyncingLaws
 pub mod AskedLaws
 pub mod SegmentLaws
 pub mod KeepingLaws

@@ -1,5 +1,6 @@
 -- After the commands of a run both states show what the browser shows after its lines.
-use Rattle.std.proofs.Common.{◌≡◌, ℕ, ◌+◌, List, [], ◌∷◌, ◌++◌, reverse, Ok, refl, sym, ap, ◌∙◌, subst}
+use Rattle.std.proofs.Common.{◌≡◌, ℕ, ◌+◌, List, [], ◌∷◌, ◌++◌, reverse, Option, Result, Ok, Err, OnOk, refl, sym}
+use Rattle.std.proofs.Common.{ap, ◌∙◌, subst}
 use Rattle.machine_law.specs.Kind.{fold}
 use Rattle.file_rotation.proofs.FoldLaws.{fold-append}
 use Rattle.session_disk.specs.declared.family.Family.TheVariants.{Session, Tabs}
@@ -27,6 +28,8 @@ use Rattle.script_lines.specs.Lines.{lines}
 use Rattle.script_lines.specs.declared.verb.Verb.{Verb}
 use Rattle.tabs_compactor.specs.TabsKind.{tabs_kind}
 use Rattle.tabs_compactor.specs.Tidying as closed_tidying
+use Rattle.run_words.specs.declared.why.Why.{Why}
+use Rattle.script_run.specs.declared.halt.Halt.{Halt}
 use Rattle.script_run.specs.Closed.{HoldsClosed, LeadsClosed}
 use Rattle.script_run.specs.Families.{Firsts}
 use Rattle.script_run.specs.Runs.{ShowsPicture, last_state}
@@ -113,7 +116,7 @@ module _ (firsts : Firsts) (text : List ℕ) where
       ≡ closed_tidying.tidying (firsts Tabs) ++ issued_to Tabs (course_of firsts text).steps
   tabs-all = tabs-run (tidying (firsts Session)) (closed_tidying.tidying (firsts Tabs)) (course_of firsts text).steps
 
-  pub shows-picture : window_state.IsState (firsts Session) → closed_entries.IsState (firsts Tabs)
+  shows-picture : window_state.IsState (firsts Session) → closed_entries.IsState (firsts Tabs)
       → LeadsClosed (first_browser firsts) (issued_to Tabs (course_of firsts text).steps) (course_of firsts text).last
       → ShowsPicture firsts text
   shows-picture session tabs closed =
@@ -136,3 +139,9 @@ module _ (firsts : Firsts) (text : List ℕ) where
             course.last shown.running shown.matches shown.state_groups shown.browser_groups;
         closed = ap (λ (x : closed_entries.State). reverse x.entries) gone ∙ ap reverse held.entries;
       }
+
+  pub picture-shown : window_state.IsState (firsts Session) → closed_entries.IsState (firsts Tabs)
+      → (ran : Result (Option (ℕ × Why)) Halt) → OnOk ran (LeadsClosed (first_browser firsts)
+      (issued_to Tabs (course_of firsts text).steps) (course_of firsts text).last) → OnOk ran (ShowsPicture firsts text)
+  picture-shown session tabs (Ok refused) closed = shows-picture session tabs closed
+  picture-shown session tabs (Err why) closed = tt

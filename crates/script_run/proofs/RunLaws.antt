@@ -1,6 +1,6 @@
 -- What the steps of a whole run, done or halted, say of the accounts, of what was said, and of what a crash leaves.
-use Rattle.std.proofs.Common.{◌≡◌, ◌+◌, ◌<◌, ◌^◌, List, [], ◌∷◌, ◌++◌, length, map, None, append_assoc, refl, sym, ap}
-use Rattle.std.proofs.Common.{◌∙◌, subst, arith}
+use Rattle.std.proofs.Common.{◌≡◌, ◌+◌, ◌<◌, ◌^◌, List, [], ◌∷◌, ◌++◌, length, map, None, Result, Ok, Err}
+use Rattle.std.proofs.Common.{append_assoc, refl, sym, ap, ◌∙◌, subst, arith}
 use Rattle.std.proofs.lemmas.List.{append-nil, length-append, length-map}
 use Rattle.machine_law.specs.declared.machine.Machine as machine
 use Rattle.compactor.specs.contracts.session.machine.SessionMachineMachine.TheImpl.{ghosts as session_ghosts}
@@ -26,7 +26,8 @@ use Rattle.writer_core.proofs.RunLaws.{run_goes, run_before, run_stops}
 use Rattle.writer_core.proofs.WorkLaws.{left_longer}
 use Rattle.script_run.specs.declared.halt.Halt.{Halt}
 use Rattle.script_run.specs.declared.halt.Halt.TheVariants as halt
-use Rattle.script_run.specs.Doing.{HaltCause, RunWriters, StepsDone, StepsHalted, StopsBehind, HaltsBehind, Sunk}
+use Rattle.script_run.specs.Doing.{DoesSteps, HaltCause, RunWriters, StepsDone, StepsHalted, StopsBehind, HaltsBehind}
+use Rattle.script_run.specs.Doing.{Sunk}
 use Rattle.script_run.specs.Families.{RunItem, kind_of}
 use Rattle.script_run.specs.Runs.{CutAt, EndsBy, HasHalted, WhereOpened, logs}
 use Rattle.script_run.specs.Steps.{Step, Handle, items_of, jobs_of}
@@ -63,7 +64,7 @@ module _ {D : Type 0} {d : disk.Ghosts D}
   abbrev pub BothLast : Type 0
   BothLast = Lasts old.session new.session × Lasts old.tabs new.tabs
 
-  pub done-lasts : (steps : List Step) (before after : Sunk) → StepsDone steps old new before after → BothLast
+  done-lasts : (steps : List Step) (before after : Sunk) → StepsDone steps old new before after → BothLast
   done-lasts steps before after h = (h.all.session.later, h.all.tabs.later)
 
   halts-last : (why : Halt) (done left : List Step) → HaltsBehind why done left old new → BothLast
@@ -76,9 +77,14 @@ module _ {D : Type 0} {d : disk.Ghosts D}
   halts-last halt.Write done left h = (h.session.later, h.tabs.later)
   halts-last halt.Memory done left h = (h.session.later, h.tabs.later)
 
-  pub halted-lasts : (steps : List Step) (before after : Sunk) (why : Halt)
+  halted-lasts : (steps : List Step) (before after : Sunk) (why : Halt)
       → StepsHalted steps old new before after why → BothLast
   halted-lasts steps before after why h = halts-last why h.done h.left h.journals
+
+  pub run-lasts : {T : Type 0} (steps : List Step) (before after : Sunk) (ran : Result T Halt)
+      → DoesSteps steps old new before after ran → BothLast
+  run-lasts steps before after (Ok x) h = done-lasts steps before after h
+  run-lasts steps before after (Err why) h = halted-lasts steps before after why h
 
   -- why a journal refused
   stopped-cause : (family : Family) (fault : JournalFault) (before : List RunItem) (item : RunItem)
@@ -173,7 +179,7 @@ module _ {D : Type 0} {d : disk.Ghosts D}
           length-append (map tabs_job (items_of done)) (tabs_job h.item ∷ []),
         )) h.tabs.turns)))
 
-    pub left-done : (before after : Sunk) → StepsDone steps old new before after
+    left-done : (before after : Sunk) → StepsDone steps old new before after
         → WhereOpened d.modelled (logs old) Left
     left-done before after h = left-all steps [] (append-nil steps) h.all
 
@@ -183,9 +189,14 @@ module _ {D : Type 0} {d : disk.Ghosts D}
     halts-left halt.Write done left parts h = left-all done left parts h
     halts-left halt.Memory done left parts h = left-all done left parts h
 
-    pub left-halted : (before after : Sunk) (why : Halt) → StepsHalted steps old new before after why
+    left-halted : (before after : Sunk) (why : Halt) → StepsHalted steps old new before after why
         → WhereOpened d.modelled (logs old) Left
     left-halted before after why h = halts-left why h.done h.left h.parts h.journals
+
+    pub left-run : {T : Type 0} (before after : Sunk) (ran : Result T Halt) → DoesSteps steps old new before after ran
+        → WhereOpened d.modelled (logs old) Left
+    left-run before after (Ok x) h = left-done before after h
+    left-run before after (Err why) h = left-halted before after why h
 
     -- the accounts of both families
     pub all-go : AllDone (items_of steps) old new → WhereOpened d.modelled (logs old) (λ b. end_of b (items_of steps)

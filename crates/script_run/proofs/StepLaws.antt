@@ -1,6 +1,6 @@
 -- Steps one after another: their items, their commands and their lines; and the commands of one family as steps.
 use Rattle.std.proofs.Common.{◌≡◌, ℕ, ◌+◌, List, [], ◌∷◌, ◌++◌, length, map, append_assoc, refl, sym, ap, ◌∙◌, arith}
-use Rattle.std.proofs.lemmas.List.{length-append, map-append}
+use Rattle.std.proofs.lemmas.List.{append-nil, length-append, map-append}
 use Rattle.session_disk.specs.declared.family.Family.{Family}
 use Rattle.session_disk.specs.declared.family.Family.TheVariants.{Session, Tabs}
 use Rattle.session_commands.specs.declared.command.SessionCommand.{SessionCommand}
@@ -26,6 +26,15 @@ pub issued-append : (family : Family) (steps more : List Step)
     → issued_to family (steps ++ more) ≡ issued_to family steps ++ issued_to family more
 issued-append family steps more =
     ap commands (jobs-append family steps more) ∙ commands-append (jobs_of family steps) (jobs_of family more)
+
+-- a sync issues nothing
+pub issued-synced : (family : Family) (steps : List Step)
+    → issued_to family (steps ++ Handle item.Sync ∷ []) ≡ issued_to family steps
+issued-synced family steps = issued-append family steps (Handle item.Sync ∷ []) ∙ by family
+  where
+    by : (family : Family) → issued_to family steps ++ issued_to family (Handle item.Sync ∷ []) ≡ issued_to family steps
+    by Session = append-nil (issued_to Session steps)
+    by Tabs = append-nil (issued_to Tabs steps)
 
 pub counted-append : (family : Family) (steps more : List Step)
     → length (issued_to family (steps ++ more)) ≡ length (issued_to family steps) + length (issued_to family more)

@@ -1,5 +1,5 @@
 -- What is told while steps are done, and the lines of syncs that say no more.
-use Rattle.std.proofs.Common.{◌≡◌, ◌⊎◌, ℕ, ◌<◌, ◌≤◌, ◌^◌, List, [], ◌∷◌, ◌++◌, map, Option, Ok, Err}
+use Rattle.std.proofs.Common.{◌≡◌, ◌⊎◌, ℕ, ◌<◌, ◌≤◌, ◌^◌, List, [], ◌∷◌, ◌++◌, map, Option, Result, Ok, Err}
 use Rattle.std.proofs.Common.{append_assoc, refl, sym, ap, ◌∙◌, subst, inl, inr, arith}
 use Rattle.std.proofs.lemmas.List.{append-nil}
 use Rattle.std.specs.List.{AllByRecursion}
@@ -20,10 +20,11 @@ use Rattle.writer_core.proofs.TellingLaws.{turn_keeps}
 use Rattle.run_words.specs.Outcome.{IsPrefix, sync_line}
 use Rattle.script_run.specs.declared.halt.Halt.{Halt}
 use Rattle.script_run.specs.declared.halt.Halt.TheVariants as halt
-use Rattle.script_run.specs.Doing.{RunWriters, Sunk}
+use Rattle.script_run.specs.Doing.{DoesSteps, RunWriters, Sunk}
 use Rattle.script_run.specs.Runs.{Logs, Writes, logs}
 use Rattle.script_run.specs.Families.{RunItem}
 use Rattle.script_run.specs.Starting.{Starts}
+use Rattle.script_run.specs.Steps.{Step}
 use Rattle.script_run.specs.SyncLines.{AreTold, BothRun, SaysTold, SaysToldAt, SaysToldBehind, TellsDone, TellsHalted}
 use Rattle.script_run.specs.SyncLines.{sync_lines, told_of}
 use Rattle.script_run.proofs.FamilyLaws.{each}
@@ -184,20 +185,6 @@ module _ (start : List ℕ) (told : Family → ℕ) where
   )
   behind-start T halt.Memory said more is says = inr (more, says, ap (λ x. x ++ more) is)
 
-  pub run-tells : {T : Type 0} (x : T) (before between after : Option (List ℕ))
-      → Writes before between (λ said. said ≡ start) → Writes between after (SaysTold told)
-      → Writes before after (SaysToldBehind (Ok x) start told)
-  run-tells x before between after one two =
-      writes-both before between after (λ said. said ≡ start) (SaysTold told) (SaysToldBehind (Ok x) start told)
-      (λ said more is says. inr (more, says, ap (λ x. x ++ more) is)) one two
-
-  pub run-tells-halted : (T : Type 0) (why : Halt) (before between after : Option (List ℕ))
-      → Writes before between (λ said. said ≡ start) → Writes between after (SaysToldAt why told)
-      → Writes before after (SaysToldBehind {T = T} (Err why) start told)
-  run-tells-halted T why before between after one two =
-      writes-both before between after (λ said. said ≡ start) (SaysToldAt why told)
-      (SaysToldBehind {T = T} (Err why) start told) (behind-start T why) one two
-
   -- a run that doesn't come to its steps
   pub start-tells : (T : Type 0) (why : Halt) (before after : Sunk) → Starts {T = Unit {0}} start before after (Err why)
       → Writes before.written after.written (SaysToldBehind {T = T} (Err why) start told)
@@ -213,3 +200,22 @@ module _ (start : List ℕ) (told : Family → ℕ) where
       either : (said : List ℕ) → (said ≡ []) ⊎ (said ≡ start) → SaysToldBehind {T = T} (Err halt.Memory) start told said
       either said (inl none) = inl none
       either said (inr whole) = inr ([], none-said told, whole ∙ sym (append-nil start))
+
+-- a run of these steps behind its line of a start, whatever it answers
+module _ {M N D : Type 0} {m : machine.Ghosts M SessionState SessionCommand}
+    {n : machine.Ghosts N ClosedState TabsCommand} {d : disk.Ghosts D} {T : Type 0} (start : List ℕ)
+    (old new : RunWriters M N D m n d) (modelled : d.modelled) (run : BothRun m.kind n.kind (logs old))
+    (before : Option (List ℕ)) (between after : Sunk) (started : Writes before between.written (λ said. said ≡ start))
+    (steps : List Step) where
+  pub run-tells : (ran : Result T Halt) → DoesSteps steps old new between after ran
+      → Writes before after.written (SaysToldBehind ran start (told_of (logs new)))
+  run-tells (Ok x) did =
+      let told = told_of (logs new) in
+      writes-both before between.written after.written (λ said. said ≡ start) (SaysTold told)
+      (SaysToldBehind {T = T} (Ok x) start told) (λ said more is says. inr (more, says, ap (λ x. x ++ more) is)) started
+      (did.tells modelled run).says
+  run-tells (Err why) halted =
+      let told = told_of (logs new) in
+      writes-both before between.written after.written (λ said. said ≡ start) (SaysToldAt why told)
+      (SaysToldBehind {T = T} (Err why) start told) (behind-start start told T why) started
+      (halted.tells modelled run).says

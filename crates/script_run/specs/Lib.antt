@@ -14,4 +14,5 @@ pub mod Acting
 pub use Rattle.writer_core.specs.Accounts
 pub use Rattle.writer_core.specs.Working
 pub use Rattle.writer_core.specs.Telling
+pub use Rattle.writer_core.specs.Synced
 pub use Rattle.run_words.specs.Outcome

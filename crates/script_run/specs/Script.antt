@@ -63,6 +63,10 @@ course_from number b [] = record { steps = []; refused = None; last = b }
 course_from number b (line ∷ others) = after_line number b (line_acted line b) (λ next. course_from (suc number) next
     others)
 
+-- the steps of lines, and of the last sync behind them
+abbrev pub synced_course : Course → List Step
+synced_course course = course.steps ++ Handle item.Sync ∷ []
+
 -- the browser of both states
 abbrev pub first_browser : Firsts → Browser
 first_browser firsts = begun (view (firsts Session)) (firsts Session).active (firsts Tabs).entries
@@ -77,4 +81,4 @@ tidying_steps firsts =
     ++ map (λ command. Handle (item.Tabs command)) ((kind_of Tabs).tidying (firsts Tabs))
 
 abbrev pub steps_of : Firsts → List ℕ → List Step
-steps_of firsts text = tidying_steps firsts ++ ((course_of firsts text).steps ++ Handle item.Sync ∷ [])
+steps_of firsts text = tidying_steps firsts ++ synced_course (course_of firsts text)

@@ -1,5 +1,6 @@
 -- Segments of a script: the lines up to and with the next line of a sync, up to one that is refused, or all that are
--- left. A script goes segment by segment, with a sync of both journals and its line between them.
+-- left. A script goes segment by segment: both journals are synced behind each, and the line of a sync comes between
+-- them.
 use Rattle.std.specs.Prelude.{◌≡◌, ℕ, suc, ◌+◌, ◌<◌, ◌≤◌, Bool, true, false, List, [], ◌∷◌, ◌++◌, length}
 use Rattle.std.specs.Prelude.{Option, None, Some, Result, Ok, Err}
 use Rattle.session_disk.specs.declared.family.Family.TheVariants.{Tabs}
@@ -43,6 +44,10 @@ pub record Segment : Type 0 where
   pub steps : List Step
   pub left : Left
   pub last : Browser
+
+-- with the sync of both journals that follows every segment
+abbrev pub synced_steps : Segment → List Step
+synced_steps segment = segment.steps ++ Handle item.Sync ∷ []
 
 abbrev pub ends : Left → Browser → Segment
 ends left b = record { steps = []; left = left; last = b }

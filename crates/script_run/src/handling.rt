@@ -29,7 +29,7 @@ pub(crate) fn handle_item<D: SessionDisk, C: Clock>(
     requires session { IsJob IsSessionCommand (session_job item) }
     requires tabs { IsJob IsTabsCommand (tabs_job item) }
     ensures steps { DoesUnsaid (Handle item ∷ []) writers.old writers.new result }
-    ensures syncs { OnOk result (SyncsBoth item writers.old writers.new) }
+    ensures synced { OnOk result (SyncsBoth item writers.old writers.new) }
 {
     match handle(writers, clock, item) {
         Ok(()) => Ok(()),

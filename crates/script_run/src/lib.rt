@@ -12,9 +12,10 @@
 //! let disk = MemoryDisk::empty(alloc)?;
 //! let tabs = open_journal::<TabsMachine, _, _>(alloc, Family::Tabs, disk, &mut clock, limits);
 //! if let (Ok(session), Ok(tabs)) = (session, tabs) {
-//!     let mut writers = Writers { session, tabs };
+//!     let writers = Writers { session, tabs };
 //!     let mut out = MemorySink::new(alloc, &[])?;
-//!     let ran = run_script(alloc, &mut writers, &mut out, &mut clock, b"tab 1 2\nsync\nfly 3\n");
+//!     let text = b"tab 1 2\nsync\nfly 3\n";
+//!     let (_, ran) = run_script(alloc, &mut Inline, writers, &mut out, &mut clock, text);
 //!     assert_eq!(rt; ran, Ok(Some((3, Why::Line(LineFault::UnknownVerb)))));
 //!     assert_eq!(rt; out.written(), b"start 0 0 0\nsync 2 0\n".as_slice());
 //! }
@@ -25,11 +26,16 @@ mod acting;
 mod asking;
 mod halt;
 mod handling;
+mod inline;
 mod lines;
 mod running;
+mod segment_writer;
 mod segments;
 mod starting;
 mod syncing;
 
 pub use halt::Halt;
+pub use inline::Inline;
 pub use running::run_script;
+pub use segment_writer::SegmentWriter;
+pub use segments::{Ended, run_segment};

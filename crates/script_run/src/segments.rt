@@ -19,7 +19,7 @@ use writer_core::Writers;
 
 /// How a segment ends.
 #[derive(Clone, Copy)]
-pub(crate) enum Ended<'a> {
+pub enum Ended<'a> {
     /// With a line of a sync: so many lines of the script were read, and this text is left.
     Sync(u64, &'a [u8]),
     /// With the script. The number and the reason are those of a line that is refused.
@@ -28,7 +28,7 @@ pub(crate) enum Ended<'a> {
 
 /// Acts on each line, up to the first that asks for a sync or is refused, where so many lines were read before. It
 /// takes what the browser's and the journals' calls take.
-pub(crate) fn run_segment<'a, D: SessionDisk, C: Clock>(
+pub fn run_segment<'a, D: SessionDisk, C: Clock>(
     alloc: Global,
     writers: &mut Writers<SessionMachine, TabsMachine, D>,
     clock: &mut C,

@@ -1,42 +1,19 @@
-//! A sync that a line asks for: both journals are synced, and its line is written.
+//! The line of a sync, which is written when both journals are synced.
 //! Nothing else is written between the first line of a run and its last one.
 ghost use Rattle.std.specs.Prelude.{◌≡◌, [], ◌∷◌, None};
 ghost use Rattle.script_run.specs.Doing.{DoesSteps, sunk};
-ghost use Rattle.script_run.specs.Segments.{sync_steps};
 ghost use Rattle.script_run.specs.Steps.{Say};
 
 use crate::halt::Halt;
-use crate::handling::handle_item;
 use compactor::SessionMachine;
 use run_words::sync_line;
-use session_disk::{Clock, SessionDisk, Sink, write_all};
+use session_disk::{SessionDisk, Sink, write_all};
 use std::alloc::Global;
 use tabs_compactor::TabsMachine;
-use writer_core::{Item, Writers};
+use writer_core::Writers;
 
-/// Syncs both journals, and writes the line of a sync. It takes what the calls of the journals take.
-pub(crate) fn sync_and_say<K: Sink, D: SessionDisk, C: Clock>(
-    alloc: Global,
-    writers: &mut Writers<SessionMachine, TabsMachine, D>,
-    out: &mut K,
-    clock: &mut C,
-) -> Result<(), Halt>
-    requires session_works { writers.old.session.failed ≡ None }
-    requires tabs_work { writers.old.tabs.failed ≡ None }
-    ensures { DoesSteps sync_steps writers.old writers.new
-        (sunk K.written K.faults out.old) (sunk K.written K.faults out.new) result }
-{
-    if let Err(halt) = handle_item(writers, clock, Item::Sync) {
-        return Err(halt);
-    }
-    match say_sync(alloc, writers, out) {
-        Ok(()) => Ok(()),
-        Err(halt) => Err(halt),
-    }
-}
-
-// Writes the line of a sync, with the numbers of commands that both journals took, all of which are told.
-fn say_sync<K: Sink, D: SessionDisk>(
+/// Writes the line of a sync, with the numbers of commands that both journals took, all of which are told.
+pub(crate) fn say_sync<K: Sink, D: SessionDisk>(
     alloc: Global,
     writers: &Writers<SessionMachine, TabsMachine, D>,
     out: &mut K,

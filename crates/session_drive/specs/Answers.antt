@@ -30,6 +30,13 @@ IsFirst (fault.LastStamp stamp) = Unit {0}
 IsFirst fault.Disk = Unit {0}
 IsFirst fault.Memory = Unit {0}
 
+-- no journal that had failed before halted the run
+abbrev pub IsFirstOf : Result (Option (ℕ × Why)) Halt → Type 0
+IsFirstOf (Ok refused) = Unit {0}
+IsFirstOf (Err (halt.Journal stopped)) = IsFirst stopped.fault
+IsFirstOf (Err halt.Write) = Unit {0}
+IsFirstOf (Err halt.Memory) = Unit {0}
+
 -- the answer to a script that was run, with the numbers of commands, or whose run halted
 abbrev pub answer_by : Result (Option (ℕ × Why)) Halt → ℕ → ℕ → Status
 answer_by (Ok refused) session tabs = answer_of refused session tabs

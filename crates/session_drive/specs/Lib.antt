@@ -6,3 +6,4 @@ pub mod Attempt
 pub mod Closing
 pub mod Telling
 pub mod Verdict
+pub mod Driven

@@ -1,80 +1,103 @@
-use Rattle.std.proofs.Common.{ap, ◌∙◌, subst}
+use Rattle.std.proofs.Common.{ap, subst, IfOk}
 use Rattle.script_run.specs.Doing.{sunk}
 use Rattle.script_run.specs.Segments.{IsFurther, left_by}
-use Rattle.script_run.proofs.LinesLaws.{lines-over, no-lines, segment-halted, sync-done, sync-halted}
+use Rattle.script_run.proofs.LinesLaws.{both-work, line-done, line-halted, lines-over, no-lines, segment-halted}
 use Rattle.script_run.proofs.lines.run_lines.Goals as goal
 
-pub loop-count-init : goal.loop-count-init
-loop-count-init g c =
+pub loop-ended-init : goal.loop-ended-init
+loop-ended-init g c =
     let before = sunk g.K.Sink.written g.K.Sink.faults c.args.out.now in
-    no-lines c.args.browser.now c.args.text.now c.args.writers.now before c.requires.session_works c.requires.tabs_work
-
-pub sync_and_say-requires-clause-session_works : goal.sync_and_say-requires-clause-session_works
-sync_and_say-requires-clause-session_works g c =
-    let after = sunk g.K.Sink.written g.K.Sink.faults c.loop-count.out in
-    (c.in-Ok-Sync.ensures.steps after).all.session.answers.0
-
-pub sync_and_say-requires-clause-tabs_work : goal.sync_and_say-requires-clause-tabs_work
-sync_and_say-requires-clause-tabs_work g c =
-    let after = sunk g.K.Sink.written g.K.Sink.faults c.loop-count.out in
-    (c.in-Ok-Sync.ensures.steps after).all.tabs.answers.0
+    no-lines c.args.browser c.args.text.now c.args.writers before c.requires.session_works c.requires.tabs_work
+    c.requires.session_counted c.requires.tabs_counted
 
 pub returns-in-Err-clause-steps : goal.returns-in-Err-clause-steps
 returns-in-Err-clause-steps g c =
     let before = sunk g.K.Sink.written g.K.Sink.faults c.args.out.now in
-    let after = sunk g.K.Sink.written g.K.Sink.faults c.loop-count.out in
-    segment-halted c.args.browser.now c.args.text.now c.args.writers.now before c.loop-count.rest.now c.loop-count.number
-    c.loop-count.browser c.loop-count.writers after c.loop-count.invariant c.run_segment.new.writers c.in-Err.halt
-    (c.in-Err.ensures.steps after)
+    let after = sunk g.K.Sink.written g.K.Sink.faults c.loop-ended.out in
+    segment-halted c.args.browser c.args.text.now c.args.writers before c.loop-ended.rest.now c.loop-ended.number
+    c.loop-ended.browser c.loop-ended.writers after c.loop-ended.invariant c.write_segment-synced.result.0
+    c.write_segment-synced.result.1 c.write_segment-synced.result.2 c.write_segment-synced.ensures.steps
+    c.in-Err.halt c.in-Err.is
 
-pub returns-in-Ok-Script-clause-steps : goal.returns-in-Ok-Script-clause-steps
-returns-in-Ok-Script-clause-steps g c =
+pub returns-in-Script-clause-steps : goal.returns-in-Script-clause-steps
+returns-in-Script-clause-steps g c =
     let before = sunk g.K.Sink.written g.K.Sink.faults c.args.out.now in
-    let after = sunk g.K.Sink.written g.K.Sink.faults c.loop-count.out in
-    (lines-over c.args.browser.now c.args.text.now c.args.writers.now before c.loop-count.rest.now c.loop-count.number
-    c.loop-count.browser c.loop-count.writers after c.loop-count.invariant c.run_segment.new.writers
-    (c.in-Ok-Script.ensures.steps after) c.in-Ok-Script.field-0 c.run_segment.new.browser c.in-Ok-Script.ensures.ends
-    c.in-Ok-Script.refused (ap left_by c.in-Ok-Script.field-0-is)).steps
+    let after = sunk g.K.Sink.written g.K.Sink.faults c.loop-ended.out in
+    (lines-over c.args.browser c.args.text.now c.args.writers before c.loop-ended.rest.now c.loop-ended.number
+    c.loop-ended.browser c.loop-ended.writers after c.loop-ended.invariant c.write_segment-synced.result.0
+    c.write_segment-synced.result.1 c.write_segment-synced.result.2 c.write_segment-synced.ensures.steps
+    c.in-Ok.ended c.in-Ok.is c.write_segment-synced.ensures.ends c.write_segment-synced.ensures.synced
+    c.in-Script.refused (ap left_by c.in-Script.is)).steps
 
-pub returns-in-Ok-Script-clause-refused : goal.returns-in-Ok-Script-clause-refused
-returns-in-Ok-Script-clause-refused g c =
+pub returns-in-Script-clause-synced : goal.returns-in-Script-clause-synced
+returns-in-Script-clause-synced g c =
     let before = sunk g.K.Sink.written g.K.Sink.faults c.args.out.now in
-    let after = sunk g.K.Sink.written g.K.Sink.faults c.loop-count.out in
-    c.in-Ok-Script.refused-is
-    ∙ (lines-over c.args.browser.now c.args.text.now c.args.writers.now before c.loop-count.rest.now c.loop-count.number
-    c.loop-count.browser c.loop-count.writers after c.loop-count.invariant c.run_segment.new.writers
-    (c.in-Ok-Script.ensures.steps after) c.in-Ok-Script.field-0 c.run_segment.new.browser c.in-Ok-Script.ensures.ends
-    c.in-Ok-Script.refused (ap left_by c.in-Ok-Script.field-0-is)).refused_is
+    let after = sunk g.K.Sink.written g.K.Sink.faults c.loop-ended.out in
+    (lines-over c.args.browser c.args.text.now c.args.writers before c.loop-ended.rest.now c.loop-ended.number
+    c.loop-ended.browser c.loop-ended.writers after c.loop-ended.invariant c.write_segment-synced.result.0
+    c.write_segment-synced.result.1 c.write_segment-synced.result.2 c.write_segment-synced.ensures.steps
+    c.in-Ok.ended c.in-Ok.is c.write_segment-synced.ensures.ends c.write_segment-synced.ensures.synced
+    c.in-Script.refused (ap left_by c.in-Script.is)).synced
 
-pub returns-in-Ok-Script-clause-closed : goal.returns-in-Ok-Script-clause-closed
-returns-in-Ok-Script-clause-closed g c =
+pub returns-in-Script-clause-closed : goal.returns-in-Script-clause-closed
+returns-in-Script-clause-closed g c =
     let before = sunk g.K.Sink.written g.K.Sink.faults c.args.out.now in
-    let after = sunk g.K.Sink.written g.K.Sink.faults c.loop-count.out in
-    (lines-over c.args.browser.now c.args.text.now c.args.writers.now before c.loop-count.rest.now c.loop-count.number
-    c.loop-count.browser c.loop-count.writers after c.loop-count.invariant c.run_segment.new.writers
-    (c.in-Ok-Script.ensures.steps after) c.in-Ok-Script.field-0 c.run_segment.new.browser c.in-Ok-Script.ensures.ends
-    c.in-Ok-Script.refused (ap left_by c.in-Ok-Script.field-0-is)).closed
+    let after = sunk g.K.Sink.written g.K.Sink.faults c.loop-ended.out in
+    (lines-over c.args.browser c.args.text.now c.args.writers before c.loop-ended.rest.now c.loop-ended.number
+    c.loop-ended.browser c.loop-ended.writers after c.loop-ended.invariant c.write_segment-synced.result.0
+    c.write_segment-synced.result.1 c.write_segment-synced.result.2 c.write_segment-synced.ensures.steps
+    c.in-Ok.ended c.in-Ok.is c.write_segment-synced.ensures.ends c.write_segment-synced.ensures.synced
+    c.in-Script.refused (ap left_by c.in-Script.is)).closed
 
-pub returns-in-Err-sync_and_say-clause-steps : goal.returns-in-Err-sync_and_say-clause-steps
-returns-in-Err-sync_and_say-clause-steps g c =
+pub returns-in-Script-clause-refused : goal.returns-in-Script-clause-refused
+returns-in-Script-clause-refused g c =
     let before = sunk g.K.Sink.written g.K.Sink.faults c.args.out.now in
-    let after = sunk g.K.Sink.written g.K.Sink.faults c.loop-count.out in
-    let later = sunk g.K.Sink.written g.K.Sink.faults c.sync_and_say.new.out in
-    sync-halted c.args.browser.now c.args.text.now c.args.writers.now before c.loop-count.rest.now c.loop-count.number
-    c.loop-count.browser c.loop-count.writers after c.loop-count.invariant c.run_segment.new.writers
-    (c.in-Ok-Sync.ensures.steps after) c.in-Ok-Sync.field-0 c.run_segment.new.browser c.in-Ok-Sync.ensures.ends
-    c.in-Ok-Sync.count c.in-Ok-Sync.others.now (ap left_by c.in-Ok-Sync.field-0-is) c.sync_and_say.new.writers later
-    c.in-Err-sync_and_say.halt c.in-Err-sync_and_say.ensures
+    let after = sunk g.K.Sink.written g.K.Sink.faults c.loop-ended.out in
+    (lines-over c.args.browser c.args.text.now c.args.writers before c.loop-ended.rest.now c.loop-ended.number
+    c.loop-ended.browser c.loop-ended.writers after c.loop-ended.invariant c.write_segment-synced.result.0
+    c.write_segment-synced.result.1 c.write_segment-synced.result.2 c.write_segment-synced.ensures.steps
+    c.in-Ok.ended c.in-Ok.is c.write_segment-synced.ensures.ends c.write_segment-synced.ensures.synced
+    c.in-Script.refused (ap left_by c.in-Script.is)).refused_is
 
-pub loop-count-preserved : goal.loop-count-preserved
-loop-count-preserved g c =
+pub say_sync-requires-clause-session_works : goal.say_sync-requires-clause-session_works
+say_sync-requires-clause-session_works g c =
     let before = sunk g.K.Sink.written g.K.Sink.faults c.args.out.now in
-    let after = sunk g.K.Sink.written g.K.Sink.faults c.loop-count.out in
-    let later = sunk g.K.Sink.written g.K.Sink.faults c.sync_and_say.new.out in
-    let further = subst (IsFurther c.loop-count.number c.loop-count.rest.now) c.in-Ok-Sync.field-0-is
-    c.in-Ok-Sync.ensures.further in
-    sync-done c.args.browser.now c.args.text.now c.args.writers.now before c.loop-count.rest.now c.loop-count.number
-    c.loop-count.browser c.loop-count.writers after c.loop-count.invariant c.run_segment.new.writers
-    (c.in-Ok-Sync.ensures.steps after) c.in-Ok-Sync.field-0 c.run_segment.new.browser c.in-Ok-Sync.ensures.ends
-    c.in-Ok-Sync.count c.in-Ok-Sync.others.now (ap left_by c.in-Ok-Sync.field-0-is) c.sync_and_say.new.writers later
-    c.in_default.ensures further.0
+    let after = sunk g.K.Sink.written g.K.Sink.faults c.loop-ended.out in
+    (both-work c.args.browser c.args.text.now c.args.writers before c.loop-ended.rest.now c.loop-ended.number
+    c.loop-ended.browser c.loop-ended.writers after c.loop-ended.invariant c.write_segment-synced.result.0
+    c.write_segment-synced.result.1 c.write_segment-synced.result.2 c.write_segment-synced.ensures.steps
+    c.in-Ok.ended c.in-Ok.is c.write_segment-synced.ensures.ends).0
+
+pub say_sync-requires-clause-tabs_work : goal.say_sync-requires-clause-tabs_work
+say_sync-requires-clause-tabs_work g c =
+    let before = sunk g.K.Sink.written g.K.Sink.faults c.args.out.now in
+    let after = sunk g.K.Sink.written g.K.Sink.faults c.loop-ended.out in
+    (both-work c.args.browser c.args.text.now c.args.writers before c.loop-ended.rest.now c.loop-ended.number
+    c.loop-ended.browser c.loop-ended.writers after c.loop-ended.invariant c.write_segment-synced.result.0
+    c.write_segment-synced.result.1 c.write_segment-synced.result.2 c.write_segment-synced.ensures.steps
+    c.in-Ok.ended c.in-Ok.is c.write_segment-synced.ensures.ends).1
+
+pub returns-in-Err-say_sync-clause-steps : goal.returns-in-Err-say_sync-clause-steps
+returns-in-Err-say_sync-clause-steps g c =
+    let before = sunk g.K.Sink.written g.K.Sink.faults c.args.out.now in
+    let after = sunk g.K.Sink.written g.K.Sink.faults c.loop-ended.out in
+    let later = sunk g.K.Sink.written g.K.Sink.faults c.say_sync.new.out in
+    line-halted c.args.browser c.args.text.now c.args.writers before c.loop-ended.rest.now c.loop-ended.number
+    c.loop-ended.browser c.loop-ended.writers after c.loop-ended.invariant c.write_segment-synced.result.0
+    c.write_segment-synced.result.1 c.write_segment-synced.result.2 c.write_segment-synced.ensures.steps
+    c.in-Ok.ended c.in-Ok.is c.write_segment-synced.ensures.ends c.in-Sync.count c.in-Sync.others.now
+    (ap left_by c.in-Sync.is) later c.in-Err-say_sync.halt c.in-Err-say_sync.ensures
+
+pub loop-ended-preserved : goal.loop-ended-preserved
+loop-ended-preserved g c =
+    let before = sunk g.K.Sink.written g.K.Sink.faults c.args.out.now in
+    let after = sunk g.K.Sink.written g.K.Sink.faults c.loop-ended.out in
+    let later = sunk g.K.Sink.written g.K.Sink.faults c.say_sync.new.out in
+    let further = subst (λ r. IfOk r (IsFurther c.loop-ended.number c.loop-ended.rest.now)) c.in-Ok.is
+    c.write_segment-synced.ensures.further in
+    let shorter = subst (IsFurther c.loop-ended.number c.loop-ended.rest.now) c.in-Sync.is further in
+    line-done c.args.browser c.args.text.now c.args.writers before c.loop-ended.rest.now c.loop-ended.number
+    c.loop-ended.browser c.loop-ended.writers after c.loop-ended.invariant c.write_segment-synced.result.0
+    c.write_segment-synced.result.1 c.write_segment-synced.result.2 c.write_segment-synced.ensures.steps
+    c.in-Ok.ended c.in-Ok.is c.write_segment-synced.ensures.ends c.in-Sync.count c.in-Sync.others.now
+    (ap left_by c.in-Sync.is) later c.in_default.ensures shorter.0

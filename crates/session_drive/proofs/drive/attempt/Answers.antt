@@ -51,20 +51,20 @@ returns-in-Err-open_journal-2-clause-order g c =
 pub returns-clause-run : goal.returns-clause-run
 returns-clause-run g c =
     let entry = disks g.D.SessionDisk.history g.D.SessionDisk.failed c.args.session c.args.tabs in
-    let exit = disks g.D.SessionDisk.history g.D.SessionDisk.failed c.run_over-status.new.writers.session.disk c.run_over-status.new.writers.tabs.disk in
+    let exit = disks g.D.SessionDisk.history g.D.SessionDisk.failed c.run_over-status.result.1.session.disk c.run_over-status.result.1.tabs.disk in
     let words : List (List ℕ) = map string_bytes c.args.words.now in
     let left = g.S.Source.left c.args.script.now in
     let here : Found = found words left g.D.SessionDisk.modelled entry exit in
     let old = logs {D = g.row.D.Denot} {d = g.D.SessionDisk} (record { session = c.in-Ok-open_journal.journal; tabs = c.in-Ok-open_journal-2.journal }) in
-    let new = logs {D = g.row.D.Denot} {d = g.D.SessionDisk} c.run_over-status.new.writers in
+    let new = logs {D = g.row.D.Denot} {d = g.D.SessionDisk} c.run_over-status.result.1 in
     let failed = Rose (g.K.Sink.faults c.args.out.now) (g.K.Sink.faults c.run_over-status.new.out) in
-    subst (λ (e : Family → Seen). IsRunOf (found words left g.D.SessionDisk.modelled entry e) (Rose (g.S.Source.faults c.args.script.now) (g.S.Source.faults c.read.new.script)) failed (g.K.Sink.written c.args.out.now) (g.K.Sink.written c.run_over-status.new.out) c.run_over-status.result)
-    (sym (closed_disks g.D.SessionDisk.history g.D.SessionDisk.failed c.close-2.result c.close-3.result c.run_over-status.new.writers.session.disk c.run_over-status.new.writers.tabs.disk c.close-2.ensures c.close-3.ensures))
+    subst (λ (e : Family → Seen). IsRunOf (found words left g.D.SessionDisk.modelled entry e) (Rose (g.S.Source.faults c.args.script.now) (g.S.Source.faults c.read.new.script)) failed (g.K.Sink.written c.args.out.now) (g.K.Sink.written c.run_over-status.new.out) c.run_over-status.result.0)
+    (sym (closed_disks g.D.SessionDisk.history g.D.SessionDisk.failed c.close-2.result c.close-3.result c.run_over-status.result.1.session.disk c.run_over-status.result.1.tabs.disk c.close-2.ensures c.close-3.ensures))
     (ran here c.in-Ok.task.limits c.in-Ok.task.text.items c.in-Ok.ensures.read old new
     (each (λ family. Opens (kind_of family) g.D.SessionDisk.modelled c.in-Ok.task.limits (entry family) (old family)) c.in-Ok-open_journal.ensures.opens c.in-Ok-open_journal-2.ensures.opens)
     (each (λ family. exit family ≡ record { history = (new family).history; failures = (new family).failures }) refl refl)
-    _ failed (g.K.Sink.written c.args.out.now) (g.K.Sink.written c.run_over-status.new.out) c.run_over-status.result
-    (subst (λ (t : List ℕ). RunsAs g.D.SessionDisk.modelled failed old new t (g.K.Sink.written c.args.out.now) (g.K.Sink.written c.run_over-status.new.out) c.run_over-status.result) c.deref.ensures.value c.run_over-status.ensures.run)
+    _ failed (g.K.Sink.written c.args.out.now) (g.K.Sink.written c.run_over-status.new.out) c.run_over-status.result.0
+    (subst (λ (t : List ℕ). RunsAs g.D.SessionDisk.modelled failed old new t (g.K.Sink.written c.args.out.now) (g.K.Sink.written c.run_over-status.new.out) c.run_over-status.result.0) c.deref.ensures.value c.run_over-status.ensures.run)
     (subst (LeavesRun g.D.SessionDisk.modelled old new) c.deref.ensures.value c.run_over-status.ensures.crash))
 
 pub returns-clause-order : goal.returns-clause-order
@@ -94,16 +94,16 @@ returns-in-Err-open_journal-2-clause-tells g c = λ modelled firsts ready.
 pub returns-clause-tells : goal.returns-clause-tells
 returns-clause-tells g c =
     let entry = disks g.D.SessionDisk.history g.D.SessionDisk.failed c.args.session c.args.tabs in
-    let exit = disks g.D.SessionDisk.history g.D.SessionDisk.failed c.run_over-status.new.writers.session.disk c.run_over-status.new.writers.tabs.disk in
+    let exit = disks g.D.SessionDisk.history g.D.SessionDisk.failed c.run_over-status.result.1.session.disk c.run_over-status.result.1.tabs.disk in
     let words : List (List ℕ) = map string_bytes c.args.words.now in
     let left = g.S.Source.left c.args.script.now in
     let here : Found = found words left g.D.SessionDisk.modelled entry exit in
     let old = logs {D = g.row.D.Denot} {d = g.D.SessionDisk} (record { session = c.in-Ok-open_journal.journal; tabs = c.in-Ok-open_journal-2.journal }) in
-    let new = logs {D = g.row.D.Denot} {d = g.D.SessionDisk} c.run_over-status.new.writers in
+    let new = logs {D = g.row.D.Denot} {d = g.D.SessionDisk} c.run_over-status.result.1 in
     let failed = Rose (g.K.Sink.faults c.args.out.now) (g.K.Sink.faults c.run_over-status.new.out) in
-    subst (λ (e : Family → Seen). TellsFirst (found words left g.D.SessionDisk.modelled entry e) (g.K.Sink.written c.args.out.now) (g.K.Sink.written c.run_over-status.new.out) c.run_over-status.result)
-    (sym (closed_disks g.D.SessionDisk.history g.D.SessionDisk.failed c.close-2.result c.close-3.result c.run_over-status.new.writers.session.disk c.run_over-status.new.writers.tabs.disk c.close-2.ensures c.close-3.ensures))
+    subst (λ (e : Family → Seen). TellsFirst (found words left g.D.SessionDisk.modelled entry e) (g.K.Sink.written c.args.out.now) (g.K.Sink.written c.run_over-status.new.out) c.run_over-status.result.0)
+    (sym (closed_disks g.D.SessionDisk.history g.D.SessionDisk.failed c.close-2.result c.close-3.result c.run_over-status.result.1.session.disk c.run_over-status.result.1.tabs.disk c.close-2.ensures c.close-3.ensures))
     (script-tells here c.in-Ok.task.limits old new
     (each (λ family. Opens (kind_of family) g.D.SessionDisk.modelled c.in-Ok.task.limits (entry family) (old family)) c.in-Ok-open_journal.ensures.opens c.in-Ok-open_journal-2.ensures.opens)
     (each (λ family. exit family ≡ record { history = (new family).history; failures = (new family).failures }) refl refl)
-    failed c.deref.result.now (g.K.Sink.written c.args.out.now) (g.K.Sink.written c.run_over-status.new.out) c.run_over-status.result c.run_over-status.ensures.run)
+    failed c.deref.result.now (g.K.Sink.written c.args.out.now) (g.K.Sink.written c.run_over-status.new.out) c.run_over-status.result.0 c.run_over-status.ensures.run)
