@@ -85,7 +85,7 @@ set -l second 'test (count (commandline -opc)) -eq 2'
 complete -c cidranoth -n "$second; and __cidranoth_at 1 $words" -l help -d 'show how the word is used'
 
 set -l options '__cidranoth_at 1 run gen; and not __fish_contains_opt'
-complete -c cidranoth -n "$options inline" -l inline -d 'changes nothing yet'
+complete -c cidranoth -n "$options inline" -l inline -d 'write by the thread that reads the script'
 complete -c cidranoth -n "$options every" -x -l every -d 'replace a file where more commands would follow its marker'
 complete -c cidranoth -n "$options max-file" -x -l max-file -d 'replace a file where it would have more bytes'
 complete -c cidranoth -n '__cidranoth_at 1 run; and not __fish_contains_opt max-script' -x -l max-script \

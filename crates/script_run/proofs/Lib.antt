@@ -19,4 +19,5 @@ pub mod CountLaws
 pub mod ProgressLaws
 pub mod SegmentRunLaws
 pub mod LinesLaws
+pub mod FollowingLaws
 pub mod WholeLaws

@@ -10,6 +10,9 @@ pub mod Starting
 pub mod Closed
 pub mod Syncing
 pub mod Segments
+pub mod SegmentWriting
+pub mod Whole
+pub mod Following
 pub mod Acting
 pub use Rattle.writer_core.specs.Accounts
 pub use Rattle.writer_core.specs.Working

@@ -19,7 +19,7 @@ use std::alloc::Global;
 
 /// Why a line asks nothing of the journals.
 #[derive(Clone, Copy)]
-pub(crate) enum Unasked {
+pub enum Unasked {
     /// The line is refused.
     Refused(Why),
     /// Memory ran out.
@@ -27,7 +27,7 @@ pub(crate) enum Unasked {
 }
 
 /// Reads a line and does its verb, which takes what both take. After an error the browser is as it was.
-pub(crate) fn act_on(alloc: Global, browser: &mut Browser, line: &[u8]) -> Result<Asked, Unasked>
+pub fn act_on(alloc: Global, browser: &mut Browser, line: &[u8]) -> Result<Asked, Unasked>
     ensures acts { ActsOnLine (line_acted line.now browser.old) browser.old browser.new result }
     ensures sync { IfOk result (λ asked. syncs asked ≡ is_sync line.now) }
     ensures session { IfOk result (λ asked. AllByRecursion IsSessionCommand (session_asked asked)) }

@@ -20,7 +20,7 @@ use writer_core::{Item, Writers};
 
 /// What a line asks.
 #[derive(Drop)]
-pub(crate) enum Asked {
+pub enum Asked {
     /// A sync of both journals, and its line.
     Sync,
     /// All else.
@@ -29,7 +29,7 @@ pub(crate) enum Asked {
 
 /// Commands for the session's journal, those for the journal of the tabs, and whether a compaction of both follows.
 #[derive(Drop)]
-pub(crate) struct Work {
+pub struct Work {
     pub session: Vec<SessionCommand>,
     pub tabs: Vec<TabsCommand>,
     pub compacts: bool,

@@ -1,42 +1,39 @@
 //! A segment whose lines are acted on, written and synced by the thread that calls.
 //! It is over when the call is.
+ghost use Rattle.script_run.specs.SegmentWriting.{CanWrite, WritesSegment};
 
 use crate::halt::Halt;
 use crate::handling::handle_item;
-use crate::segment_writer::SegmentWriter;
+use crate::run_state::RunState;
 use crate::segments::{Ended, run_segment};
-use browser_driver::Browser;
-use compactor::SessionMachine;
 use session_disk::{Clock, SessionDisk};
 use std::alloc::Global;
-use tabs_compactor::TabsMachine;
-use writer_core::{Item, Writers};
+use writer_core::Item;
 
-/// The thread that calls does all of a segment.
-#[derive(Drop)]
-pub struct Inline;
-
-impl SegmentWriter for Inline {
-    fn write_segment<'a, D: SessionDisk, C: Clock>(
-        &mut self,
-        alloc: Global,
-        mut writers: Writers<SessionMachine, TabsMachine, D>,
-        clock: &mut C,
-        mut browser: Browser,
-        number: u64,
-        text: &'a [u8],
-    ) -> (
-        Writers<SessionMachine, TabsMachine, D>,
-        Browser,
-        Result<Ended<'a>, Halt>,
+/// Acts on each line of a segment and writes what it asks, and then syncs both journals. It takes what the browser's and
+/// the journals' calls take.
+pub fn write_inline<'a, D: SessionDisk, C: Clock>(
+    alloc: Global,
+    mut state: RunState<D>,
+    text: &'a [u8],
+    clock: &mut C,
+) -> (RunState<D>, Result<Ended<'a>, Halt>)
+    requires can { CanWrite state text.now }
+    ensures { WritesSegment state text.now result.0 result.1 }
+{
+    let ended = match run_segment(
+        alloc,
+        &mut state.writers,
+        clock,
+        &mut state.browser,
+        state.number,
+        text,
     ) {
-        let ended = match run_segment(alloc, &mut writers, clock, &mut browser, number, text) {
-            Ok(ended) => ended,
-            Err(halt) => return (writers, browser, Err(halt)),
-        };
-        match handle_item(&mut writers, clock, Item::Sync) {
-            Ok(()) => (writers, browser, Ok(ended)),
-            Err(halt) => (writers, browser, Err(halt)),
-        }
+        Ok(ended) => ended,
+        Err(halt) => return (state, Err(halt)),
+    };
+    match handle_item(&mut state.writers, clock, Item::Sync) {
+        Ok(()) => (state, Ok(ended)),
+        Err(halt) => (state, Err(halt)),
     }
 }

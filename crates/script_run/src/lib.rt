@@ -15,7 +15,7 @@
 //!     let writers = Writers { session, tabs };
 //!     let mut out = MemorySink::new(alloc, &[])?;
 //!     let text = b"tab 1 2\nsync\nfly 3\n";
-//!     let (_, ran) = run_script(alloc, &mut Inline, writers, &mut out, &mut clock, text);
+//!     let (_, ran) = run_script(alloc, writers, &mut out, &mut clock, text);
 //!     assert_eq!(rt; ran, Ok(Some((3, Why::Line(LineFault::UnknownVerb)))));
 //!     assert_eq!(rt; out.written(), b"start 0 0 0\nsync 2 0\n".as_slice());
 //! }
@@ -28,14 +28,18 @@ mod halt;
 mod handling;
 mod inline;
 mod lines;
+mod run_state;
 mod running;
-mod segment_writer;
 mod segments;
 mod starting;
 mod syncing;
 
+pub use acting::{Unasked, act_on};
+pub use asking::{Asked, Work};
 pub use halt::Halt;
-pub use inline::Inline;
+pub use inline::write_inline;
+pub use lines::{Next, go_on};
+pub use run_state::RunState;
 pub use running::run_script;
-pub use segment_writer::SegmentWriter;
-pub use segments::{Ended, run_segment};
+pub use segments::Ended;
+pub use starting::start;

@@ -1,75 +1,46 @@
-//! The lines of a script, segment by segment.
-//! Behind each of them both journals are synced; the line of that is written where a line asked for it.
-ghost use Rattle.std.specs.Prelude.{◌≡◌, ◌≤◌, ◌^◌, length, None, IfOk, OnOk};
-ghost use Rattle.session_disk.specs.declared.family.Family.TheVariants.{Tabs};
-ghost use Rattle.script_lines.specs.Lines.{lines};
-ghost use Rattle.writer_core.specs.Synced.{BothSynced};
-ghost use Rattle.writer_core.specs.Telling.{IsCounted};
-ghost use Rattle.script_run.specs.Closed.{LeadsClosed};
-ghost use Rattle.script_run.specs.Doing.{DoesSteps, sunk};
-ghost use Rattle.script_run.specs.Script.{course_from, synced_course};
-ghost use Rattle.script_run.specs.Steps.{issued_to, items_of};
+//! What follows a segment: the line of its sync and further lines, or the end of the run.
+//! The line of a sync is written where a line of the script asked for it, when both journals are synced.
+ghost use Rattle.std.specs.Prelude.{IfOk};
+ghost use Rattle.script_run.specs.Doing.{sunk};
+ghost use Rattle.script_run.specs.Following.{AreSynced, Follows};
 
 use crate::halt::Halt;
-use crate::segment_writer::SegmentWriter;
+use crate::run_state::RunState;
 use crate::segments::Ended;
 use crate::syncing::say_sync;
-use browser_driver::Browser;
-use compactor::SessionMachine;
 use run_words::Why;
-use session_disk::{Clock, SessionDisk, Sink};
+use session_disk::{SessionDisk, Sink};
 use std::alloc::Global;
-use tabs_compactor::TabsMachine;
-use writer_core::Writers;
 
-/// Acts on each line, up to the first that is refused, whose number, counted from 1, and reason are the answer, and
-/// syncs both journals behind that. It takes what the browser's and the journals' calls take.
-pub(crate) fn run_lines<W: SegmentWriter, K: Sink, D: SessionDisk, C: Clock>(
+/// What a run comes to behind a segment.
+#[derive(Clone, Copy)]
+pub enum Next<'a> {
+    /// This text is left.
+    Lines(&'a [u8]),
+    /// The run is over. The number and the reason are those of a line that is refused.
+    Over(Result<Option<(u64, Why)>, Halt>),
+}
+
+/// Goes on behind a segment that was written so: where it ended with a line of a sync, writes the line of that. It takes
+/// time and memory for that line alone.
+pub fn go_on<'a, K: Sink, D: SessionDisk>(
     alloc: Global,
-    segments: &mut W,
-    mut writers: Writers<SessionMachine, TabsMachine, D>,
+    mut state: RunState<D>,
+    written: Result<Ended<'a>, Halt>,
     out: &mut K,
-    clock: &mut C,
-    mut browser: Browser,
-    text: &[u8],
-) -> (
-    Writers<SessionMachine, TabsMachine, D>,
-    Result<Option<(u64, Why)>, Halt>,
-)
-    requires session_works { writers.session.failed ≡ None }
-    requires tabs_work { writers.tabs.failed ≡ None }
-    requires session_counted { IsCounted writers.session.present }
-    requires tabs_counted { IsCounted writers.tabs.present }
-    requires short { length text.now ≤ 2 ^ 30 }
-    ensures steps { DoesSteps (synced_course (course_from 1 browser (lines text.now))) writers result.0
-        (sunk K.written K.faults out.old) (sunk K.written K.faults out.new) result.1 }
-    ensures synced { OnOk result.1
-        (BothSynced (items_of (synced_course (course_from 1 browser (lines text.now)))) writers result.0) }
-    ensures refused { IfOk result.1 (λ refused. refused ≡ (course_from 1 browser (lines text.now)).refused) }
-    ensures closed { OnOk result.1 (LeadsClosed browser
-        (issued_to Tabs (course_from 1 browser (lines text.now)).steps)
-        (course_from 1 browser (lines text.now)).last) }
+) -> (RunState<D>, Next<'a>)
+    requires synced { IfOk written (λ ended. AreSynced state.writers) }
+    ensures { Follows state written.entry (sunk K.written K.faults out.old) (sunk K.written K.faults out.new)
+        result.0 result.1 }
 {
-    let mut number = 0;
-    let mut rest = text;
-    loop {
-        let (synced, last, written) = segments.write_segment(
-            alloc, writers, clock, browser, number, rest,
-        );
-        let ended = match written {
-            Ok(ended) => ended,
-            Err(halt) => return (synced, Err(halt)),
-        };
-        let (count, others) = match ended {
-            Ended::Sync(count, others) => (count, others),
-            Ended::Script(refused) => return (synced, Ok(refused)),
-        };
-        if let Err(halt) = say_sync(alloc, &synced, out) {
-            return (synced, Err(halt));
-        }
-        writers = synced;
-        browser = last;
-        number = count;
-        rest = others;
+    let (number, others) = match written {
+        Ok(Ended::Sync(number, others)) => (number, others),
+        Ok(Ended::Script(refused)) => return (state, Next::Over(Ok(refused))),
+        Err(halt) => return (state, Next::Over(Err(halt))),
+    };
+    if let Err(halt) = say_sync(alloc, &state.writers, out) {
+        return (state, Next::Over(Err(halt)));
     }
+    state.number = number;
+    (state, Next::Lines(others))
 }

@@ -28,7 +28,7 @@ pub enum Ended<'a> {
 
 /// Acts on each line, up to the first that asks for a sync or is refused, where so many lines were read before. It
 /// takes what the browser's and the journals' calls take.
-pub fn run_segment<'a, D: SessionDisk, C: Clock>(
+pub(crate) fn run_segment<'a, D: SessionDisk, C: Clock>(
     alloc: Global,
     writers: &mut Writers<SessionMachine, TabsMachine, D>,
     clock: &mut C,

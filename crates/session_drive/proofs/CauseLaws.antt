@@ -1,5 +1,5 @@
 -- Causes of answers: wider ones, and those of one step of a run among those of the whole.
-use Rattle.std.proofs.Common.{◌≡◌, ◌⊎◌, ℕ, ◌<◌, Option, None, Some, sym, subst, inl, inr}
+use Rattle.std.proofs.Common.{◌≡◌, ◌⊎◌, ℕ, ◌<◌, Option, None, Some, Ok, Err, sym, subst, inl, inr}
 use Rattle.session_disk.specs.Causes.{Rose}
 use Rattle.session_disk.specs.declared.family.Family.{Family}
 use Rattle.log_writer.specs.declared.fault.JournalFault.{JournalFault}
@@ -10,7 +10,9 @@ use Rattle.run_words.specs.declared.status.Status.TheVariants.{Done, Usage, Refu
 use Rattle.run_words.specs.declared.status.Long.TheVariants.{Script, File}
 use Rattle.run_words.specs.declared.why.Why.{Why}
 use Rattle.run_words.specs.Outcome.{unsaid}
-use Rattle.session_drive.specs.Answers.{IsFirst, status_of}
+use Rattle.script_run.specs.declared.halt.Halt.TheVariants as halt
+use Rattle.script_run.specs.Whole.{Ran}
+use Rattle.session_drive.specs.Answers.{IsFirst, answer_by, status_of}
 use Rattle.session_drive.specs.Causes.{Causes, HasCause}
 use Rattle.session_drive.specs.Run.{Found, CallsNoDisk, EndsFirst, IsDone, IsOver, answer_of, causes}
 use Rattle.run_words.specs.Words.{order_of}
@@ -98,6 +100,21 @@ fault_not_done family (fault.TooLong needed) done = done
 fault_not_done family (fault.LastStamp stamp) done = done
 fault_not_done family fault.Disk done = done
 fault_not_done family fault.Memory done = done
+
+pub fault_calls : (family : Family) (why : JournalFault) → CallsNoDisk (status_of family why) → ⊥
+fault_calls family (fault.AlreadyFailed first) calls = calls
+fault_calls family (fault.TooLong needed) calls = calls
+fault_calls family (fault.LastStamp stamp) calls = calls
+fault_calls family fault.Disk calls = calls
+fault_calls family fault.Memory calls = calls
+
+-- the answer to a script that was run isn't given before a disk is called
+pub run_calls : (ran : Ran) (session tabs : ℕ) → CallsNoDisk (answer_by ran session tabs) → ⊥
+run_calls (Ok None) session tabs calls = calls
+run_calls (Ok (Some refused)) session tabs calls = calls
+run_calls (Err (halt.Journal stopped)) session tabs calls = fault_calls stopped.family stopped.fault calls
+run_calls (Err halt.Write) session tabs calls = calls
+run_calls (Err halt.Memory) session tabs calls = calls
 
 -- an answer that takes another one's place
 

@@ -6,6 +6,8 @@ pub mod RunLaws
 pub mod LineLaws
 pub mod PrintedLaws
 pub mod TellingLaws
+pub mod AttemptLaws
 pub mod FirstRefusedLaws
 pub mod VerdictLaws
+pub mod DrivenLaws
 mod WorkedVerdicts

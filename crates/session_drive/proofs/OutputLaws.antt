@@ -34,10 +34,6 @@ pub writes_weaken : (old new : Option (List ℕ)) (P Q : List ℕ → Type 0) �
 writes_weaken None new P Q f h = h
 writes_weaken (Some before) new P Q f (said, is, says) = (said, is, f said says)
 
-pub writes_nothing : (old : Option (List ℕ)) (P : List ℕ → Type 0) → P [] → Writes old old P
-writes_nothing None P h = refl
-writes_nothing (Some before) P h = ([], ap Some (sym (append-nil before)), h)
-
 module _ (found : Found) (failed : Type 0) where
   -- behind the lines of all steps stands the last one
   joined : (run : Started found) (answer : Status) → said_of run ++ last_line answer ≡ whole run answer

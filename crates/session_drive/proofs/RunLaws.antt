@@ -1,5 +1,5 @@
 -- The steps of a run joined: why it answers so, what it has said, and what it leaves on both disks.
-use Rattle.std.proofs.Common.{◌≡◌, ℕ, ◌+◌, ◌<◌, List, [], ◌∷◌, ◌++◌, length, Option, Some, None, IfSome, Result, Ok, Err, refl, sym, ap, ◌∙◌, subst, inl, inr, arith}
+use Rattle.std.proofs.Common.{◌≡◌, ◌⊎◌, ℕ, ◌+◌, ◌<◌, List, [], ◌∷◌, ◌++◌, length, Option, Some, None, IfSome, Ok, Err, refl, sym, ap, ◌∙◌, subst, inl, inr, arith}
 use Rattle.std.proofs.lemmas.List.{append-nil}
 use Rattle.std.proofs.Math.Path.{fun_ext}
 use Rattle.session_disk.specs.Histories.{History, Leaves}
@@ -30,21 +30,21 @@ use Rattle.run_words.specs.declared.status.Status.{Status}
 use Rattle.run_words.specs.declared.status.Status.TheVariants.{Write, Memory}
 use Rattle.run_words.specs.declared.why.Why.{Why}
 use Rattle.run_words.specs.Words.{Asked, order_of}
-use Rattle.script_run.specs.declared.halt.Halt.{Halt}
 use Rattle.script_run.specs.declared.halt.Halt.TheVariants as halt
 use Rattle.script_run.specs.Families.{CommandOf, Firsts, StateOf, kind_of}
 use Rattle.script_run.specs.Runs.{CutAt, HasRun, LeavesRun, Logs, RunHalted, RunsScript, SaysHalted, ShowsPicture, WhereOpened, said_behind_start, states_of}
 use Rattle.script_run.specs.Script.{course_of, steps_of}
 use Rattle.script_run.specs.Steps.{Step, Handle, issued_to, items_of, jobs_of, said_by}
+use Rattle.script_run.specs.Whole.{Ran}
 use Rattle.script_run.specs.Verdict.{Beginnings, RunAccounts, end_of, firsts_of, run_accounts}
-use Rattle.session_drive.specs.Answers.{RunsAs, answer_by, status_of}
-use Rattle.session_drive.specs.Attempt.{IsRunOf, SaysFirst}
+use Rattle.session_drive.specs.Answers.{answer_by, status_of}
+use Rattle.session_drive.specs.Attempt.{IsRefused, IsRunOf, SaysFirst}
 use Rattle.session_drive.specs.Causes.{HasCause}
 use Rattle.session_drive.specs.Reading.{IsAsked, IsScript, read_causes}
 use Rattle.session_drive.specs.Run.{Found, BeginsAt, EndsBehind, EndsFirst, IsAtOpening, IsCutBy, IsOver, LeavesScript, Opened, SaysCut, Started, WhereBegun, WhereKnown, answer_of, answer_to, causes, script_from, script_of}
-use Rattle.session_drive.proofs.CauseLaws.{IsExact, answer_done, cause_answered, cause_implied, fault_caused, fault_not_done, not_answered}
+use Rattle.session_drive.proofs.CauseLaws.{IsExact, answer_done, cause_answered, cause_implied, fault_calls, fault_caused, fault_not_done, not_answered}
 use Rattle.session_drive.proofs.EndLaws.{ended_by, opening_stays, session_stops, tabs_stop}
-use Rattle.session_drive.proofs.OutputLaws.{fault_said, read_said, script_said, writes_nothing, writes_weaken}
+use Rattle.session_drive.proofs.OutputLaws.{fault_said, read_said, script_said, writes_weaken}
 
 -- what holds of both families
 pub each : (P : Family → Type 0) → P Session → P Tabs → (family : Family) → P family
@@ -100,23 +100,28 @@ source_short (ReadScript few) (Some all) text s = λ most is. subst (λ (t : Lis
 source_short (Generated x count) (Some all) text s = λ most is. absurd cc
 
 -- there is no script
-pub not_read : (found : Found) (read write : Type 0) (written : Option (List ℕ)) (status : Status) → ((family : Family) → found.exit family ≡ found.entry family) → HasCause (read_causes (order_of found.words) found.text read) status → IsRunOf found read write written written status
-not_read found read write written status same cause = record {
-  cause = cause_implied (read_causes (order_of found.words) found.text read) (causes found read write) (record {
+pub unread : (found : Found) (read same_session same_tabs : Type 0) (status : Status)
+    → ((family : Family) → found.exit family ≡ found.entry family) → same_session → same_tabs
+    → HasCause (read_causes (order_of found.words) found.text read) status
+    → IsRefused found read same_session same_tabs status
+unread found read same_session same_tabs status same session tabs cause = record {
+  cause = cause_implied (read_causes (order_of found.words) found.text read) (causes found read ⊥) (record {
     usage = λ h. h;
     read = λ h. h;
-    write = λ h. absurd h;
+    write = λ h. h;
     long_script = λ needed h. h;
     answered = λ answer h. absurd h;
     disk = λ family h. absurd h;
     long_file = λ family needed h. absurd h;
     last_stamp = λ family stamp h. absurd h;
   }) status cause;
-  output = writes_nothing written (SaysFirst found status) (read_said found (order_of found.words) found.text read status cause);
-  done = λ done. absurd (not_answered (read_causes (order_of found.words) found.text read) (λ answer h. h) status cause done);
-  picture = λ done. absurd (not_answered (read_causes (order_of found.words) found.text read) (λ answer h. h) status cause done);
+  says_none = read_said found (order_of found.words) found.text read status cause;
+  undone = not_answered (read_causes (order_of found.words) found.text read) (λ answer h. h) status cause;
   crash = λ modelled firsts ready. any_text (λ text. (family : Family) → LeftOn found family firsts text) (script_of found)
-      (λ text family. waits family (found.entry family).history (found.exit family).history (firsts family) (ap (λ (s : Seen). s.history) (same family)) (ready family) (issued_to family (steps_of firsts text)));
+      (λ text family. waits family (found.entry family).history (found.exit family).history (firsts family)
+      (ap (λ (s : Seen). s.history) (same family)) (ready family) (issued_to family (steps_of firsts text)));
+  order = inl tabs;
+  not_called = λ calls. (session, tabs);
 }
 
 module _ (found : Found) (limits : Limits) (script : List ℕ) (a : IsAsked (order_of found.words) found.text script limits) where
@@ -137,41 +142,54 @@ module _ (found : Found) (limits : Limits) (script : List ℕ) (a : IsAsked (ord
   known P h = told_text P (script_of found) script (subst (λ (o : Option Asked). IfSome (script_from found.text o) (λ all. script ≡ all)) (sym a.is) a.script.known) h
 
   -- an opening was refused, with this left on the disks
-  opening_refused : (family : Family) (read write : Type 0) (written : Option (List ℕ)) (why : JournalFault) → RefusesOpening (kind_of family) found.modelled limits (found.entry family) (found.exit family) why →
-      WhereBegun found (λ b. StopsFor (run_accounts b []) family why) → LeavesScript found → IsRunOf found read write written written (status_of family why)
-  opening_refused family read write written why r stops crash =
-      let ends = λ (exact : IsExact why) (x : RunAccounts) (h : StopsFor x family why). ended_by x family limits.max_file (found.entry family).failures (found.exit family).failures why r.cause exact h in
+  opening_refused : (family : Family) (read same_session same_tabs : Type 0) (why : JournalFault)
+      → RefusesOpening (kind_of family) found.modelled limits (found.entry family) (found.exit family) why
+      → WhereBegun found (λ b. StopsFor (run_accounts b []) family why) → LeavesScript found
+      → same_tabs ⊎ Opened found Session → IsRefused found read same_session same_tabs (status_of family why)
+  opening_refused family read same_session same_tabs why r stops crash order =
+      let before = (found.entry family).failures in
+      let after = (found.exit family).failures in
+      let ends = λ (exact : IsExact why) (x : RunAccounts) (h : StopsFor x family why).
+      ended_by x family limits.max_file before after why r.cause exact h in
       record {
-        cause = fault_caused found read write family limits.max_file (found.entry family).failures (found.exit family).failures why r.cause (λ rose. rose) is_over
+        cause = fault_caused found read ⊥ family limits.max_file before after why r.cause (λ rose. rose) is_over
             (λ exact. ends_first (status_of family why) (λ modelled b at. known (λ text. end_of b (items_of (steps_of (firsts_of b) text)) ≡ Some (status_of family why))
             (let items = items_of (steps_of (firsts_of b) script) in ends exact (run_accounts b items) (opening_stays b items family why (stops modelled b at)))));
-        output = writes_nothing written (SaysFirst found (status_of family why)) (fault_said found family why []
-            (inl (at_opening found family why (λ exact modelled b at. ends exact (run_accounts b []) (stops modelled b at)), refl)));
-        done = λ done. absurd (fault_not_done family why done);
-        picture = λ done. absurd (fault_not_done family why done);
+        says_none = fault_said found family why [] (inl (
+          at_opening found family why
+              (λ exact modelled b at. ends exact (run_accounts b []) (stops modelled b at)),
+          refl,
+        ));
+        undone = fault_not_done family why;
         crash = crash;
+        order = order;
+        not_called = λ calls. absurd (fault_calls family why calls);
       }
 
-  pub session_refused : (read write : Type 0) (written : Option (List ℕ)) (why : JournalFault) → RefusesOpening (kind_of Session) found.modelled limits (found.entry Session) (found.exit Session) why → found.exit Tabs ≡ found.entry Tabs →
-      IsRunOf found read write written written (status_of Session why)
-  session_refused read write written why r same = opening_refused Session read write written why r
+  pub session_refused : (read same_session same_tabs : Type 0) (why : JournalFault)
+      → RefusesOpening (kind_of Session) found.modelled limits (found.entry Session) (found.exit Session) why
+      → found.exit Tabs ≡ found.entry Tabs → same_tabs
+      → IsRefused found read same_session same_tabs (status_of Session why)
+  session_refused read same_session same_tabs why r same tabs = opening_refused Session read same_session same_tabs why r
       (λ modelled b at. session_stops b why (r.stops modelled (b Session) (same_options Session (b Session) (at Session)) (at Session).begins []))
       (λ modelled firsts ready. known (λ text. (family : Family) → LeftOn found family firsts text) (each (λ family. LeftOn found family firsts script)
       (longer_left (kind_of Session) (found.entry Session).history (found.exit Session).history (firsts Session) [] (issued_to Session (steps_of firsts script)) (r.left modelled (firsts Session) (ready Session)))
       (waits Tabs (found.entry Tabs).history (found.exit Tabs).history (firsts Tabs) (ap (λ (s : Seen). s.history) same) (ready Tabs) (issued_to Tabs (steps_of firsts script)))))
+      (inl tabs)
 
   -- a journal that was opened goes, by its account
   pub opened : (family : Family) (l : Log (StateOf family) (CommandOf family)) → Opens (kind_of family) found.modelled limits (found.entry family) l → Opened found family
   opened family l o modelled b at = let on = o.begins modelled b (same_options family b at) at.begins in (on.account, on.is)
 
-  pub tabs_refused : (read write : Type 0) (written : Option (List ℕ)) (why : JournalFault) (l : Log (StateOf Session) (CommandOf Session)) → Opens (kind_of Session) found.modelled limits (found.entry Session) l → (found.exit Session).history ≡ l.history →
-      RefusesOpening (kind_of Tabs) found.modelled limits (found.entry Tabs) (found.exit Tabs) why → IsRunOf found read write written written (status_of Tabs why)
-  tabs_refused read write written why l o closed r = opening_refused Tabs read write written why r
+  pub tabs_refused : (read same_session same_tabs : Type 0) (why : JournalFault) (l : Log (StateOf Session) (CommandOf Session)) → Opens (kind_of Session) found.modelled limits (found.entry Session) l → (found.exit Session).history ≡ l.history →
+      RefusesOpening (kind_of Tabs) found.modelled limits (found.entry Tabs) (found.exit Tabs) why → IsRefused found read same_session same_tabs (status_of Tabs why)
+  tabs_refused read same_session same_tabs why l o closed r = opening_refused Tabs read same_session same_tabs why r
       (λ modelled b at. tabs_stop b (opened Session l o modelled (b Session) (at Session)) why (r.stops modelled (b Tabs) (same_options Tabs (b Tabs) (at Tabs)) (at Tabs).begins []))
       (λ modelled firsts ready. known (λ text. (family : Family) → LeftOn found family firsts text) (each (λ family. LeftOn found family firsts script)
       (subst (λ (h : History). Leaves (found.entry Session).history h (IsLeft (kind_of Session) (found.entry Session).history.now (firsts Session) (issued_to Session (steps_of firsts script)))) (sym closed)
       (opened_left (kind_of Session) found.modelled limits (found.entry Session) l o modelled (firsts Session) (ready Session) (jobs_of Session (steps_of firsts script))))
       (longer_left (kind_of Tabs) (found.entry Tabs).history (found.exit Tabs).history (firsts Tabs) [] (issued_to Tabs (steps_of firsts script)) (r.left modelled (firsts Tabs) (ready Tabs)))))
+      (inr (opened Session l o))
 
   -- the script was run over both journals
   module _ (old new : Logs) (opens : (family : Family) → Opens (kind_of family) found.modelled limits (found.entry family) (old family))
@@ -300,11 +318,9 @@ module _ (found : Found) (limits : Limits) (script : List ℕ) (a : IsAsked (ord
         crash = left crash;
       }
 
-      ran_by : (ran : Result (Option (ℕ × Why)) Halt) → RunsScript found.modelled write old new script written printed ran → IsRunOf found read write written printed (answer_by ran (new Session).present.count (new Tabs).present.count)
-      ran_by (Ok refused) h = run_whole refused h
-      ran_by (Err (halt.Journal stopped)) h = journal_halted stopped h
-      ran_by (Err halt.Write) h = write_halted h
-      ran_by (Err halt.Memory) h = memory_halted h
-
-    pub ran : (read write : Type 0) (written printed : Option (List ℕ)) (status : Status) → RunsAs found.modelled write old new script written printed status → LeavesRun found.modelled old new script → IsRunOf found read write written printed status
-    ran read write written printed status r crash = subst (IsRunOf found read write written printed) (sym r.is) (ran_by read write written printed crash r.ran r.runs)
+      pub ran : (answer : Ran) → RunsScript found.modelled write old new script written printed answer
+          → IsRunOf found read write written printed (answer_by answer (new Session).present.count (new Tabs).present.count)
+      ran (Ok refused) h = run_whole refused h
+      ran (Err (halt.Journal stopped)) h = journal_halted stopped h
+      ran (Err halt.Write) h = write_halted h
+      ran (Err halt.Memory) h = memory_halted h

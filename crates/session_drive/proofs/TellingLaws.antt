@@ -20,9 +20,10 @@ use Rattle.script_run.specs.declared.halt.Halt.TheVariants as halt
 use Rattle.script_run.specs.Counts.{counts_of}
 use Rattle.script_run.specs.Families.{Firsts, kind_of}
 use Rattle.script_run.specs.Runs.{Logs, Writes, states_of}
-use Rattle.script_run.specs.SyncLines.{BothRun, SaysTold, SaysToldBehind, told_of}
+use Rattle.script_run.specs.SyncLines.{BothRun, SaysTold, SaysToldBehind, TellsRun, told_of}
+use Rattle.script_run.specs.Whole.{Ran}
 use Rattle.script_run.proofs.SayingLaws.{prefix-behind, writes-both, writes-nothing, writes-weaken}
-use Rattle.session_drive.specs.Answers.{RunsAs, answer_by, status_of}
+use Rattle.session_drive.specs.Answers.{answer_by, status_of}
 use Rattle.session_drive.specs.Closing.{WritesLine}
 use Rattle.session_drive.specs.Run.{Found}
 use Rattle.session_drive.specs.Telling.{SaysFirstTold, SaysPart, SaysWhole, SyncsTold, TellsFirst, told_by_end}
@@ -110,15 +111,14 @@ module _ (found : Found) (limits : Limits) (old new : Logs)
         (firsts Tabs) (ready Tabs);
   }
 
-  pub script-tells : (failed : Type 0) (text : List ℕ) (written printed : Option (List ℕ)) (status : Status)
-      → RunsAs found.modelled failed old new text written printed status → TellsFirst found written printed status
-  script-tells failed text written printed status r = λ modelled firsts ready.
+  pub script-tells : (written printed : Option (List ℕ)) (ran : Ran)
+      → TellsRun found.modelled old new written printed ran
+      → TellsFirst found written printed (answer_by ran (new Session).present.count (new Tabs).present.count)
+  script-tells written printed ran tells = λ modelled firsts ready.
       let told : told_of new ≡ told_by_end found =
       fun_ext (λ family. ap (λ (s : Seen). s.history.now.told) (sym (closed family))) in
       let session = (new Session).present.count in
       let tabs = (new Tabs).present.count in
       let counts = counts_of (states_of old) in
-      subst (λ answer. Writes written printed (SaysFirstTold answer (told_by_end found))) (sym r.is)
-      (subst (λ numbers. Writes written printed (SaysFirstTold (answer_by r.ran session tabs) numbers)) told
-      (ran-told (told_of new) counts r.ran session tabs written printed
-      (r.tells modelled (both-run modelled firsts ready))))
+      subst (λ numbers. Writes written printed (SaysFirstTold (answer_by ran session tabs) numbers)) told
+      (ran-told (told_of new) counts ran session tabs written printed (tells modelled (both-run modelled firsts ready)))

@@ -2,8 +2,9 @@ pub mod Causes
 pub mod Run
 pub mod Reading
 pub mod Answers
+pub mod Prepared
+pub mod Telling
 pub mod Attempt
 pub mod Closing
-pub mod Telling
 pub mod Verdict
 pub mod Driven

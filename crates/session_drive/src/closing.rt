@@ -4,21 +4,30 @@ ghost use Rattle.std.specs.Prelude.{◌≡◌, ◌≢◌, ◌⊎◌, ◌≤◌};
 ghost use Rattle.std.specs.String.{string_bytes};
 ghost use Rattle.session_disk.specs.Causes.{Rose};
 ghost use Rattle.run_words.specs.Outcome.{last_line, unsaid};
-ghost use Rattle.session_drive.specs.Closing.{IsLineOf, WritesLine};
+ghost use Rattle.script_run.specs.Doing.{sunk};
+ghost use Rattle.session_drive.specs.Closing.{Concludes, IsLineOf, WritesLine};
 
 use run_words::Status;
 use session_disk::{Sink, write_all};
 use std::alloc::Global;
 
-/// An answer and its last line.
+// An answer and its last line.
 #[derive(Drop)]
-pub(crate) struct Closing {
+struct Closing {
     status: Status,
     line: String,
 }
 
-/// The answer with its line; where there is no memory for the line, want of memory.
-pub(crate) fn close(alloc: Global, status: Status) -> Closing
+/// Writes the last line of a run, and answers what the run answers.
+pub(crate) fn conclude<K: Sink>(alloc: Global, out: &mut K, status: Status) -> Status
+    ensures { Concludes (sunk K.written K.faults out.old) (sunk K.written K.faults out.new) status result }
+{
+    let closing = close(alloc, status);
+    finish(out, &closing)
+}
+
+// The answer with its line; where there is no memory for the line, want of memory.
+fn close(alloc: Global, status: Status) -> Closing
     ensures closing { (result.status ≡ status) ⊎ ((result.status ≡ Status.Memory) × (status ≢ Status.Write)) }
     ensures line { IsLineOf result.status (string_bytes result.line) }
 {
@@ -31,8 +40,8 @@ pub(crate) fn close(alloc: Global, status: Status) -> Closing
     }
 }
 
-/// Writes the last line, and answers what the run answers.
-pub(crate) fn finish<K: Sink>(out: &mut K, closing: &Closing) -> Status
+// Writes the line, and answers what the run answers.
+fn finish<K: Sink>(out: &mut K, closing: &Closing) -> Status
     requires { IsLineOf closing.now.status (string_bytes closing.now.line) }
     ensures status { (result ≡ closing.now.status)
         ⊎ ((result ≡ unsaid closing.now.status) × Rose (K.faults out.old) (K.faults out.new)) }

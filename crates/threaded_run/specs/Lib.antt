@@ -1,0 +1,4 @@
+pub mod Answers
+pub mod Beside
+pub mod Issuers
+pub mod Issuing
